@@ -1,0 +1,5 @@
+pub mod Cases
+pub mod Table
+pub mod Classes
+pub mod Beginnings
+pub mod Parts

@@ -1,0 +1,27 @@
+-- `chars::spelling::pre_spelling` meets its contract: each way out is a word that the text begins with, after words that it does not.
+-- Assumes nothing.
+use borrow.Author.Needs.{needs}
+use Rattle.chars.specs.Spelling.{preSpelling}
+use Rattle.chars.proofs.Beginnings.{pre-found, word-not}
+use Rattle.chars.proofs.spelling.pre_spelling.Statement.{statement}
+use Rattle.chars.proofs.spelling.pre_spelling.Tie as tie
+
+pub pre-spelling-spec : {M : Type 1} → statement M
+unfolding preSpelling
+pre-spelling-spec =
+    tie.close
+    (tie.spec
+    (λ c. search needs)
+    (λ c κs. search needs)
+    (λ c. record { is = search (pre-found, word-not); within = search needs })
+    (λ c. search needs)
+    (λ c κs. search needs)
+    (λ c. record { is = search (pre-found, word-not); within = search needs })
+    (λ c. search needs)
+    (λ c κs. search needs)
+    (λ c. record { is = search (pre-found, word-not); within = search needs })
+    (λ c. search needs)
+    (λ c κs. search needs)
+    (λ c. record { is = search (pre-found, word-not); within = search needs })
+    (λ c κs. search needs)
+    (λ c. record { is = search word-not; within = search needs }))

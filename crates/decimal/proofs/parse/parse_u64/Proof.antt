@@ -1,0 +1,41 @@
+-- `decimal::parse::parse_u64` meets its contract: the value of the digits so far, with those to come, is the value of all.
+-- Assumes nothing.
+use mathlib.Core.Path.{_≡_, refl}
+use Prim.Native.Nat.{_+_, _*_, _-_, _^_, _<_, _≤_}
+use native.Mathlib.Omega.{arith}
+use borrow.Author.Needs.{needs}
+use lib.ListN.{length, drop}
+use Rattle.decimal.specs.Parse.{valueFrom}
+use Rattle.decimal.proofs.Values.{parse-big, parse-on, parse-done}
+use Rattle.decimal.proofs.parse.parse_u64.Statement.{statement}
+use Rattle.decimal.proofs.parse.parse_u64.Tie as tie
+
+abbrev Inv-loop : tie.InvT-loop
+Inv-loop digits value₀ i₀ value i = (value < 2 ^ 64) × (valueFrom value (drop i digits) ≡ valueFrom 0 digits)
+
+abbrev μ-loop : tie.MeasureT-loop
+μ-loop digits value₀ i₀ value i = length digits - i
+
+big : tie.Need-returns Inv-loop μ-loop
+big c =
+    let value = c .before .before .before .before .loop .value in
+    let over : 2 ^ 64 ≤ value * 10 + c .before .digit .result = omega arith in
+    search parse-big
+
+pub parse-u64-spec : {M : Type 1} → statement M
+parse-u64-spec =
+    tie.close
+    (tie.spec
+    Inv-loop
+    μ-loop
+    (λ c. (search needs, refl))
+    (λ c. search needs)
+    (λ c κs. search needs)
+    (λ c. search needs)
+    big
+    (λ c. search needs)
+    (λ c. search needs)
+    (λ c. search needs)
+    (λ c. search needs)
+    (λ c. (search needs, search parse-on))
+    (λ c. search parse-done))

@@ -1,0 +1,2 @@
+// Numbers in decimal digits.
+pub mod parse;

@@ -1,0 +1,6 @@
+pub mod AtPlaces
+pub mod Heads
+pub mod Suffixes
+pub mod Labels
+pub mod Wholes
+pub mod Segments

@@ -1,0 +1,112 @@
+-- A whole text, rules 1 to 9 in their order: as a pattern, which may end in a wildcard, and as a version, which may not.
+use mathlib.Core.Path.{_≡_}
+use mathlib.Core.Bool.{Bool, true, false}
+use mathlib.Core.List.{List}
+use Prim.Native.Nat.{ℕ, _+_, _≤_}
+use lib.Dec.{eqb, ltb}
+use lib.ListN.{length, drop}
+use Rattle.chars.specs.Pick.{pick}
+use Rattle.chars.specs.Text.{ascii}
+use Rattle.chars.specs.Class.{blank, between, front}
+use Rattle.chars.specs.Case.{startsWith}
+use Rattle.reading.specs.declared.fields.Pre.{Pre}
+use Rattle.reading.specs.declared.fields.Pre.the-variants.{Absent as NoPre}
+use Rattle.reading.specs.declared.fields.Part.{Part}
+use Rattle.reading.specs.declared.fields.Part.the-variants.{Absent as NoPart}
+use Rattle.reading.specs.declared.fields.Local.{Local}
+use Rattle.reading.specs.declared.fields.Version.{Version}
+use Rattle.reading.specs.declared.head.Head.{Head}
+use Rattle.reading.specs.declared.suffix.Suffix.{Suffix}
+use Rattle.reading.specs.declared.suffix.Suffix.the-variants.{Read as SuffixRead, TooBig as SuffixTooBig}
+use Rattle.reading.specs.declared.label.Label.{Label}
+use Rattle.reading.specs.declared.text.Verdict.the-variants.{Accepted, Refused}
+use Rattle.reading.specs.declared.text.PatternReading.{PatternReading}
+use Rattle.reading.specs.declared.text.Reading.{Reading}
+use Rattle.reading.specs.Fields.{noRelease, noLocal}
+use Rattle.reading.specs.Head.{headOf}
+use Rattle.reading.specs.Suffix.{suffixAt}
+use Rattle.reading.specs.Label.{labelAt}
+
+-- a text or a list has at most so many bytes
+abbrev pub longest : ℕ
+longest = 1024
+
+abbrev pub noVersion : Version
+noVersion = record { epoch = 0; release = noRelease; pre = NoPre; post = NoPart; dev = NoPart; local = noLocal }
+
+-- a refusal gives nothing but its number and place
+abbrev pub refusedWith : ℕ → ℕ → PatternReading
+refusedWith number place = record {
+  verdict = Refused (record { number = number; place = place });
+  wildcard = false;
+  version = noVersion;
+}
+
+abbrev pub fielded : Head → Pre → Part → Part → Local → Version
+fielded h pre post dev local = record {
+  epoch = h .epoch;
+  release = h .release;
+  pre = pre;
+  post = post;
+  dev = dev;
+  local = local;
+}
+
+abbrev pub accepted : Bool → Version → PatternReading
+accepted wildcard version = record { verdict = Accepted; wildcard = wildcard; version = version }
+
+-- rule 4: behind the release stands `.*`; a version may not have it, and a pattern has nothing at all after it
+unfoldable pub starred : Bool → List ℕ → Head → PatternReading
+starred wildcards s h =
+    pick wildcards
+    (pick (ltb (h .at + 2) (length s)) (refusedWith 7 (h .at + 2)) (accepted true (fielded h NoPre NoPart NoPart noLocal)))
+    (refusedWith 6 (h .at))
+
+-- rule 9: blanks, then the end
+abbrev pub ended : List ℕ → Version → ℕ → PatternReading
+ended s version end = pick (ltb end (length s)) (refusedWith 5 end) (accepted false version)
+
+abbrev pub afterLabel : List ℕ → Head → Pre → Part → Part → Label → PatternReading
+afterLabel s h pre post dev l =
+    pick (eqb (l .refusal) 0)
+    (ended s (fielded h pre post dev (l .local)) (l .at + front (between blank blank) (drop (l .at) s)))
+    (refusedWith (l .refusal) (l .place))
+
+unfoldable pub afterSuffix : List ℕ → Head → Pre → Part → Part → ℕ → PatternReading
+afterSuffix s h pre post dev at = afterLabel s h pre post dev (labelAt s at)
+
+abbrev pub suffixed : List ℕ → Head → Suffix → PatternReading
+suffixed s h (SuffixRead pre post dev next) = afterSuffix s h pre post dev next
+suffixed s h (SuffixTooBig d) = refusedWith 3 d
+
+unfoldable pub afterRelease : List ℕ → Head → PatternReading
+afterRelease s h = suffixed s h (suffixAt s (h .at))
+
+abbrev pub afterHead : Bool → List ℕ → Head → PatternReading
+afterHead wildcards s h =
+    pick (eqb (h .refusal) 0)
+    (pick (startsWith (ascii ".*") (drop (h .at) s)) (starred wildcards s h) (afterRelease s h))
+    (refusedWith (h .refusal) (h .place))
+
+unfoldable pub patternAs : Bool → List ℕ → PatternReading
+patternAs wildcards s = pick (ltb longest (length s)) (refusedWith 8 longest) (afterHead wildcards s (headOf s))
+
+abbrev pub patternOf : List ℕ → PatternReading
+patternOf s = patternAs true s
+
+abbrev pub withoutWildcard : PatternReading → Reading
+withoutWildcard r = record { verdict = r .verdict; version = r .version }
+
+unfoldable pub versionOf : List ℕ → Reading
+versionOf s = withoutWildcard (patternAs false s)
+
+-- what a caller may count on beside the equation
+pub record Read (spec r : PatternReading) : Type 0 where
+  pub is : r ≡ spec
+  pub few : r .version .release .len ≤ 16
+  pub short : r .version .local .len ≤ 16
+
+pub record VersionRead (spec r : Reading) : Type 0 where
+  pub is : r ≡ spec
+  pub few : r .version .release .len ≤ 16
+  pub short : r .version .local .len ≤ 16

@@ -1,0 +1,41 @@
+-- The segments of a local label: their bytes, and whether those say a number or text.
+use mathlib.Core.List.{List, []}
+use Prim.Native.Nat.{ℕ, _-_}
+use lib.Dec.{eqb, leb}
+use lib.ListN.{length, getD, take, drop}
+use Rattle.chars.specs.Pick.{pick}
+use Rattle.decimal.specs.declared.parse.Number.{Number}
+use Rattle.decimal.specs.declared.parse.Number.the-variants.{Value, TooBig}
+use Rattle.decimal.specs.Parse.{numberOf, digitsOf}
+use Rattle.reading.specs.declared.fields.Span.{Span}
+use Rattle.reading.specs.declared.fields.Local.{Local}
+use Rattle.reading.specs.declared.segment.Segment.{Segment}
+use Rattle.reading.specs.declared.segment.Segment.the-variants.{Number as IsNumber, Text}
+use Rattle.reading.specs.Fields.{noSpan}
+use Rattle.reading.specs.Reading.{versionOf}
+
+abbrev pub numbered : Number → Segment
+numbered (Value n) = IsNumber n
+numbered TooBig = Text
+
+-- what reads as a number below 2^64 is one, and all else is text
+unfoldable pub segmentOf : List ℕ → Segment
+segmentOf bytes = pick (eqb (digitsOf bytes) (length bytes)) (numbered (numberOf bytes)) Text
+
+abbrev pub spanned : List ℕ → Span → List ℕ
+spanned s g = take (g .end - g .start) (drop (g .start) s)
+
+-- the bytes of the segment with that index, of which there are at most 16
+unfoldable pub segmentBytes : List ℕ → Local → ℕ → List ℕ
+segmentBytes s l i = pick (leb (l .len) i) [] (pick (leb 16 i) [] (spanned s (getD (l .spans) i noSpan)))
+
+-- the bytes where they are text
+abbrev pub textOnly : List ℕ → Segment → List ℕ
+textOnly bytes (IsNumber n) = []
+textOnly bytes Text = bytes
+
+-- a refused text has no segments
+unfoldable pub segmentText : List ℕ → ℕ → List ℕ
+segmentText s i =
+    let bytes = segmentBytes s (versionOf s .version .local) i in
+    textOnly bytes (segmentOf bytes)

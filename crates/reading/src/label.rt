@@ -1,0 +1,88 @@
+// Rule 8: the local label.
+use crate::fields::Local;
+use crate::fields::Span;
+use crate::places::separator_end;
+use chars::class;
+use chars::place::byte_at;
+ghost use Prim.Native.Nat.{_≤_};
+ghost use lib.ListN.{length};
+ghost use Rattle.reading.specs.Fields.{noLocal};
+ghost use Rattle.reading.specs.Places.{Stepped};
+ghost use Rattle.reading.specs.Label.{Labelled, wordEnd, labelRefused, segmentsFrom, labelAt};
+
+// What rule 8 reads, and where the rest begins. A refusal's number is 0 where there is none, and nothing else is given beside one.
+pub struct Label {
+    pub refusal: u8,
+    pub place: usize,
+    pub at: usize,
+    pub local: Local,
+}
+
+fn refused(number: u8, place: usize) -> Label
+    ensures { λ r. ⌜ Labelled 0 (labelRefused number place) r ⌝ }
+{
+    let local = Local::none();
+    Label {
+        refusal: number,
+        place,
+        at: 0,
+        local,
+    }
+}
+
+// Past letters and digits.
+fn word_end(s: &[u8], at: usize) -> usize
+    requires { ⌜ at ≤ length (now s) ⌝ }
+    ensures { λ r. ⌜ Stepped (now (s .entry)) at (wordEnd (now (s .entry)) at) r ⌝ }
+{
+    at + class::run(&s[at..], class::DIGIT, class::LETTER)
+}
+
+// Segments from a place on, one separator between two.
+fn read_segments(s: &[u8], from: usize) -> Label
+    requires { ⌜ (from ≤ length (now s)) × (length (now s) ≤ 1024) ⌝ }
+    ensures { λ r. ⌜ Labelled (length (now (s .entry))) (segmentsFrom 16 (now (s .entry)) noLocal from) r ⌝ }
+{
+    let mut local = Local::none();
+    let mut at = from;
+    loop {
+        let end = word_end(s, at);
+        if end == at {
+            return refused(4, at);
+        }
+        if local.len == 16 {
+            return refused(10, at);
+        }
+        let span = Span {
+            start: at as u16,
+            end: end as u16,
+        };
+        local = local.push(span);
+        let next = separator_end(s, end);
+        if next == end {
+            return Label {
+                refusal: 0,
+                place: 0,
+                at: end,
+                local,
+            };
+        }
+        at = next;
+    }
+}
+
+pub(crate) fn read_label(s: &[u8], at: usize) -> Label
+    requires { ⌜ (at ≤ length (now s)) × (length (now s) ≤ 1024) ⌝ }
+    ensures { λ r. ⌜ Labelled (length (now (s .entry))) (labelAt (now (s .entry)) at) r ⌝ }
+{
+    if byte_at(s, at) == b'+' {
+        return read_segments(s, at + 1);
+    }
+    let local = Local::none();
+    Label {
+        refusal: 0,
+        place: 0,
+        at,
+        local,
+    }
+}

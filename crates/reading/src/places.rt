@@ -1,0 +1,47 @@
+// What stands at a place of the text: a separator, a number, a number behind a mark.
+use chars::class;
+use chars::place::byte_at;
+use decimal::parse::Leading;
+use decimal::parse::leading_number;
+ghost use Prim.Native.Nat.{_≤_};
+ghost use lib.ListN.{length};
+ghost use Rattle.reading.specs.Places.{Stepped, NumberedAt, separatorEnd, numberAt, markedNumber};
+
+// A number at a place: none, its value and the place behind it, or one of 2^64 and more.
+pub enum NumberAt {
+    Absent,
+    Read(u64, usize),
+    TooBig,
+}
+
+// Past one separator, if there is one.
+pub fn separator_end(s: &[u8], at: usize) -> usize
+    ensures { λ r. ⌜ Stepped (now (s .entry)) at (separatorEnd (now (s .entry)) at) r ⌝ }
+{
+    if class::class_of(byte_at(s, at)) == class::SEPARATOR {
+        return at + 1;
+    }
+    at
+}
+
+pub(crate) fn number_at(s: &[u8], at: usize) -> NumberAt
+    requires { ⌜ at ≤ length (now s) ⌝ }
+    ensures { λ r. ⌜ NumberedAt (now (s .entry)) (numberAt (now (s .entry)) at) r ⌝ }
+{
+    match leading_number(&s[at..]) {
+        Leading::Absent => NumberAt::Absent,
+        Leading::Read(n, len) => NumberAt::Read(n, at + len),
+        Leading::TooBig => NumberAt::TooBig,
+    }
+}
+
+// The mark, and a number right behind it.
+pub(crate) fn marked_number(s: &[u8], at: usize, mark: u8) -> NumberAt
+    requires { ⌜ (at ≤ length (now s)) × (1 ≤ mark) ⌝ }
+    ensures { λ r. ⌜ NumberedAt (now (s .entry)) (markedNumber mark (now (s .entry)) at) r ⌝ }
+{
+    if byte_at(s, at) != mark {
+        return NumberAt::Absent;
+    }
+    number_at(s, at + 1)
+}
