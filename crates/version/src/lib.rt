@@ -1,0 +1,29 @@
+// The version layer's promises: each entry point takes any bytes, and says all of its answer.
+use reading::text::PatternReading;
+use reading::text::Reading;
+use reading::text::read_pattern;
+use reading::text::read_version;
+ghost use mathlib.Core.Path.{_≡_};
+ghost use Rattle.reading.specs.Reading.{Read, VersionRead, patternOf, versionOf};
+ghost use Rattle.reading.specs.Segment.{segmentText};
+
+// The fields of a version, or its refusal.
+pub fn read(text: &[u8]) -> Reading
+    ensures { λ r. ⌜ VersionRead (versionOf (now (text .entry))) r ⌝ }
+{
+    read_version(text)
+}
+
+// The fields of a version that a wildcard may follow, or its refusal.
+pub fn pattern(text: &[u8]) -> PatternReading
+    ensures { λ r. ⌜ Read (patternOf (now (text .entry))) r ⌝ }
+{
+    read_pattern(text)
+}
+
+// The text segment of a version's label with that index, as a part of the caller's bytes: empty for a number, a missing segment or a refused text.
+pub fn segment(text: &[u8], index: usize) -> &[u8]
+    ensures { λ r. ⌜ now r ≡ segmentText (now (text .entry)) index ⌝ }
+{
+    reading::segment::segment_text(text, index)
+}
