@@ -1,1 +1,3 @@
 pub mod Parse
+pub mod Digits
+pub mod Put

@@ -1,2 +1,3 @@
-// Numbers in decimal digits.
+// Numbers in decimal digits, and bytes written into a lent buffer.
 pub mod parse;
+pub mod put;

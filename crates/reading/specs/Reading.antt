@@ -5,6 +5,7 @@ use mathlib.Core.List.{List}
 use Prim.Native.Nat.{ℕ, _+_, _≤_}
 use lib.Dec.{eqb, ltb}
 use lib.ListN.{length, drop}
+use Rattle.answers.specs.Written.{refusal}
 use Rattle.chars.specs.Pick.{pick}
 use Rattle.chars.specs.Text.{ascii}
 use Rattle.chars.specs.Class.{blank, between, front}
@@ -37,7 +38,7 @@ noVersion = record { epoch = 0; release = noRelease; pre = NoPre; post = NoPart;
 -- a refusal gives nothing but its number and place
 abbrev pub refusedWith : ℕ → ℕ → PatternReading
 refusedWith number place = record {
-  verdict = Refused (record { number = number; place = place });
+  verdict = Refused (refusal number place);
   wildcard = false;
   version = noVersion;
 }

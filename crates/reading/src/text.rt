@@ -9,17 +9,12 @@ use crate::head::read_head;
 use crate::label::read_label;
 use crate::suffix::Suffix;
 use crate::suffix::read_suffix;
+use answers::Refusal;
 use chars::case::beginning;
 use chars::class;
 ghost use Prim.Native.Nat.{_≤_, _+_};
 ghost use lib.ListN.{length};
 ghost use Rattle.reading.specs.Reading.{Read, VersionRead, refusedWith, starred, afterSuffix, afterRelease, patternAs, patternOf, versionOf};
-
-// A refusal's number and place, as the table of refusals has them.
-pub struct Refusal {
-    pub number: u8,
-    pub place: usize,
-}
 
 pub enum Verdict {
     Accepted,

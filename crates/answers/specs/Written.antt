@@ -1,0 +1,29 @@
+-- What any printer answers and leaves behind, by the text that it is to write.
+use mathlib.Core.Bool.{Bool, true, false}
+use mathlib.Core.List.{List, _++_}
+use Prim.Native.Nat.{ℕ}
+use lib.Dec.{ltb}
+use lib.ListN.{length, drop}
+use Rattle.answers.specs.declared.Refusal.{Refusal}
+use Rattle.answers.specs.declared.Written.{Written}
+use Rattle.answers.specs.declared.Written.the-variants.{Length, Refused}
+
+abbrev pub refusal : ℕ → ℕ → Refusal
+refusal number place = record { number = number; place = place }
+
+-- by whether the buffer is too short
+abbrev pub answerIf : Bool → List ℕ → Written
+answerIf true text = Refused (refusal 11 (length text))
+answerIf false text = Length (length text)
+
+abbrev pub filledIf : Bool → List ℕ → List ℕ → List ℕ
+filledIf true text buf = buf
+filledIf false text buf = text ++ drop (length text) buf
+
+-- the length, where the buffer has room for the text; else refusal 11 with the length needed
+unfoldable pub answer : List ℕ → List ℕ → Written
+answer text buf = answerIf (ltb (length buf) (length text)) text
+
+-- the text, then what stood behind it; else the buffer as it was
+unfoldable pub filled : List ℕ → List ℕ → List ℕ
+filled text buf = filledIf (ltb (length buf) (length text)) text buf
