@@ -1,4 +1,5 @@
 -- What any printer answers and leaves behind, by the text that it is to write.
+use mathlib.Core.Path.{_≡_}
 use mathlib.Core.Bool.{Bool, true, false}
 use mathlib.Core.List.{List, _++_}
 use Prim.Native.Nat.{ℕ}
@@ -27,3 +28,8 @@ answer text buf = answerIf (ltb (length buf) (length text)) text
 -- the text, then what stood behind it; else the buffer as it was
 unfoldable pub filled : List ℕ → List ℕ → List ℕ
 filled text buf = filledIf (ltb (length buf) (length text)) text buf
+
+-- r is the answer, and `new` the buffer afterwards, of a printer of that text
+pub record Printed (text old new : List ℕ) (r : Written) : Type 0 where
+  pub answers : r ≡ answer text old
+  pub leaves : new ≡ filled text old

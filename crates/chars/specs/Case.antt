@@ -17,6 +17,11 @@ pub record Lowered (b r : ℕ) : Type 0 where
   pub is : r ≡ lowerOf b
   pub near : r ≤ b + 32
 
+-- a text in lower case
+unfoldable pub lowered : List ℕ → List ℕ
+lowered [] = []
+lowered (b ∷ s) = lowerOf b ∷ lowered s
+
 -- the text begins with the word, which is in lower case, in either case
 unfoldable pub startsWith : List ℕ → List ℕ → Bool
 startsWith [] s = true

@@ -1,8 +1,5 @@
 // Bytes and parts of a text, whether or not the text reaches that far.
-ghost use mathlib.Core.Path.{_≡_};
-ghost use Prim.Native.Nat.{_-_};
-ghost use lib.ListN.{take, drop};
-ghost use Rattle.chars.specs.Place.{ByteAt};
+ghost use Rattle.chars.specs.Place.{ByteAt, PartOf};
 
 // The byte at a place, and 0 past the end.
 pub fn byte_at(s: &[u8], at: usize) -> u8
@@ -13,7 +10,7 @@ pub fn byte_at(s: &[u8], at: usize) -> u8
 
 // The part from start to end, as far as the text goes.
 pub fn part(s: &[u8], start: usize, end: usize) -> &[u8]
-    ensures { λ r. ⌜ now r ≡ take (end - start) (drop start (now (s .entry))) ⌝ }
+    ensures { λ r. ⌜ PartOf (now (s .entry)) start end (now r) ⌝ }
 {
     if end <= start {
         return &s[..0];

@@ -42,3 +42,16 @@ more-digits n h = rw (le-ltb n 10 h) (deeper n (le-refl n))
     deeper (suc f) k =
         ap (λ (l : List ℕ). l ++ (figure (n % 10) ∷ []))
         (deep-enough f (n / 10) (n / 10) (ltb (n / 10) 10) refl (omega arith) (le-refl (n / 10)))
+
+-- a number below 10 ^ suc k has at most suc k digits
+few-digits : (k n : ℕ) (b : Bool) → ltb n 10 ≡ b → n < 10 ^ suc k → length (decimal n) ≤ suc k
+few-digits zero n true e h = rw (one-digit n (ltb-true n 10 e)) (omega arith)
+few-digits (suc k) n true e h = rw (one-digit n (ltb-true n 10 e)) (omega arith)
+few-digits zero n false e h = let g : 10 ≤ n = ltb-false n 10 e in absurd (omega arith)
+few-digits (suc k) n false e h =
+    let less : n / 10 < 10 ^ suc k = omega (arith, pow-suc 10 (suc k)) in
+    let shorter : length (decimal (n / 10)) ≤ suc k = few-digits k (n / 10) (ltb (n / 10) 10) refl less in
+    rw (more-digits n (ltb-false n 10 e), length-append) (omega arith)
+
+pub twenty-digits : (n : ℕ) → n < 2 ^ 64 → length (decimal n) ≤ 20
+twenty-digits n h = few-digits 19 n (ltb n 10) refl (omega arith)

@@ -11,8 +11,10 @@ use lib.ListN.{length, length-append, set}
 use lib.Seq.{sets, length-sets, sets-eq, set-out}
 use borrow.Author.Tests.{leb-true, leb-false, lt-ltb, le-ltb}
 use Rattle.answers.specs.declared.Written.the-variants.{Length, Refused}
-use Rattle.answers.specs.Written.{refusal, answer, filled}
-use Rattle.decimal.specs.Put.{farthest, onward, Wrote}
+use Rattle.answers.specs.Written.{refusal, answer, filled, Printed}
+use Rattle.decimal.specs.Digits.{decimal}
+use Rattle.decimal.specs.Put.{farthest, onward, Wrote, Put}
+use Rattle.decimal.proofs.Figures.{twenty-digits}
 
 sets-append : (s t l : List ℕ) (i : ℕ) → sets (sets l i s) (i + length s) t ≡ sets l i (s ++ t)
 sets-append [] t l i = rw add-zero
@@ -38,8 +40,8 @@ follow s t l i h = go (leb (i + length s) farthest) refl
         rw (place, sets-past t (sets l i s) farthest (omega arith))
         (sym (sets-past t (sets l i s) (i + length s) (omega arith)) ∙ sets-append s t l i)
 
-pub nothing : (l : List ℕ) (i : ℕ) → length l ≤ farthest → i ≤ farthest → Wrote l i [] l i
-nothing l i h g = record { bytes = refl; moved = omega arith; size = h }
+pub nothing : (l : List ℕ) (i : ℕ) → length l < 2 ^ 64 → i < 2 ^ 64 → Wrote l i [] l i
+nothing l i h g = record { bytes = refl; moved = omega arith; size = omega arith }
 
 -- a byte behind the buffer's end changes nothing
 pub byte-out : (l : List ℕ) (i b j : ℕ) → length l ≤ i → length l ≤ farthest → j ≡ onward i 1 → Wrote l i (b ∷ []) l j
@@ -59,18 +61,28 @@ same-size {a} {b} {s} {i} p = ap length (p .bytes) ∙ length-sets a i s
 pub retext : {a b s t : List ℕ} {i j : ℕ} → s ≡ t → Wrote a i s b j → Wrote a i t b j
 retext {a} {b} {s} {t} {i} {j} e p = subst (λ (x : List ℕ). Wrote a i x b j) e p
 
--- what a printer owes: where there is no room, and where there is
-pub short : (text buf : List ℕ) (need : ℕ) → need ≡ length text → length buf < need →
-    (Refused (refusal 11 need) ≡ answer text buf) × (buf ≡ filled text buf)
-unfolding answer filled
-short text buf need e h =
-    let l : ltb (length buf) (length text) ≡ true = lt-ltb (length buf) (length text) (omega arith) in
-    (rw (l, e), rw l)
+-- a number of 64 bits has at most twenty digits
+pub number-put : {a b : List ℕ} {i j n : ℕ} → Wrote a i (decimal n) b j → n < 2 ^ 64 → Put 20 a i (decimal n) b j
+number-put {n = n} p h = record { wrote = p; near = omega (arith, p .moved, twenty-digits n h) }
 
-pub printed : (text buf new : List ℕ) (r : ℕ) → Wrote buf 0 text new r → length text ≤ length buf →
-    (Length r ≡ answer text buf) × (new ≡ filled text buf)
-unfolding answer filled
-printed text buf new r p h =
-    let l : ltb (length buf) (length text) ≡ false = le-ltb (length buf) (length text) h in
-    let whole : r ≡ length text = omega (arith, p .moved, p .size) in
-    (rw (l, whole), rw (l, p .bytes, sets-eq text buf 0 (omega arith), zero-add))
+-- what a printer owes: where there is no room, and where there is
+-- its writer was run on an empty buffer first, and said where it would be
+module _ (most : ℕ) (text none none′ : List ℕ) (need : ℕ) (dry : Put most none 0 text none′ need) (few : most < farthest) where
+  whole : need ≡ length text
+  whole = omega (arith, dry .wrote .moved, dry .near)
+
+  pub short : (buf : List ℕ) → length buf < need → Printed text buf buf (Refused (refusal 11 need))
+  unfolding answer filled
+  short buf h =
+      let l : ltb (length buf) (length text) ≡ true = lt-ltb (length buf) (length text) (omega (arith, whole)) in
+      record { answers = rw (l, whole); leaves = rw l }
+
+  pub printed : (buf new : List ℕ) (r : ℕ) → Put most buf 0 text new r → need ≤ length buf → Printed text buf new (Length r)
+  unfolding answer filled
+  printed buf new r p h =
+      let l : ltb (length buf) (length text) ≡ false = le-ltb (length buf) (length text) (omega (arith, whole)) in
+      let all : r ≡ length text = omega (arith, p .wrote .moved, p .near) in
+      record {
+        answers = rw (l, all);
+        leaves = rw (l, p .wrote .bytes, sets-eq text buf 0 (omega (arith, whole)), zero-add);
+      }

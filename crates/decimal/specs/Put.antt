@@ -17,3 +17,8 @@ pub record Wrote (old : List ℕ) (at : ℕ) (text new : List ℕ) (next : ℕ) 
   pub bytes : new ≡ sets old at text
   pub moved : next ≡ onward at (length text)
   pub size : length old ≤ farthest
+
+-- the same of a text that has at most so many bytes
+pub record Put (most : ℕ) (old : List ℕ) (at : ℕ) (text new : List ℕ) (next : ℕ) : Type 0 where
+  pub wrote : Wrote old at text new next
+  pub near : next ≤ at + most

@@ -1,12 +1,13 @@
 // Writing into a lent buffer. Each writer stores what has room, and always answers the place behind its text:
 // over an empty buffer it gives the length of what it would write.
 ghost use mathlib.Core.List.{[], _∷_};
+ghost use lib.ListN.{length};
 ghost use Rattle.decimal.specs.Digits.{decimal};
-ghost use Rattle.decimal.specs.Put.{Wrote};
+ghost use Rattle.decimal.specs.Put.{Put};
 
 // The only function that stores. The last place that 64 bits can say stands for all behind it.
 pub fn put_byte(buf: &mut [u8], at: usize, b: u8) -> usize
-    ensures { λ r. ⌜ Wrote (now (buf .entry)) at (b ∷ []) (now (buf .exit)) r ⌝ }
+    ensures { λ r. ⌜ Put 1 (now (buf .entry)) at (b ∷ []) (now (buf .exit)) r ⌝ }
 {
     if at < buf.len() {
         buf[at] = b;
@@ -19,7 +20,7 @@ pub fn put_byte(buf: &mut [u8], at: usize, b: u8) -> usize
 }
 
 pub fn put_bytes(buf: &mut [u8], at: usize, s: &[u8]) -> usize
-    ensures { λ r. ⌜ Wrote (now (buf .entry)) at (now (s .entry)) (now (buf .exit)) r ⌝ }
+    ensures { λ r. ⌜ Put (length (now (s .entry))) (now (buf .entry)) at (now (s .entry)) (now (buf .exit)) r ⌝ }
 {
     let mut next = at;
     let mut i = 0;
@@ -32,7 +33,7 @@ pub fn put_bytes(buf: &mut [u8], at: usize, s: &[u8]) -> usize
 
 // The digits of n, with no zero in front.
 pub fn put_number(buf: &mut [u8], at: usize, n: u64) -> usize
-    ensures { λ r. ⌜ Wrote (now (buf .entry)) at (decimal n) (now (buf .exit)) r ⌝ }
+    ensures { λ r. ⌜ Put 20 (now (buf .entry)) at (decimal n) (now (buf .exit)) r ⌝ }
 {
     if n < 10 {
         put_byte(buf, at, (48 + n) as u8)

@@ -5,3 +5,4 @@ pub mod Suffix
 pub mod Label
 pub mod Reading
 pub mod Segment
+pub mod Value

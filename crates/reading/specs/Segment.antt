@@ -1,6 +1,7 @@
 -- The segments of a local label: their bytes, and whether those say a number or text.
+use mathlib.Core.Path.{_≡_}
 use mathlib.Core.List.{List, []}
-use Prim.Native.Nat.{ℕ, _-_}
+use Prim.Native.Nat.{ℕ, _-_, _≤_}
 use lib.Dec.{eqb, leb}
 use lib.ListN.{length, getD, take, drop}
 use Rattle.chars.specs.Pick.{pick}
@@ -28,6 +29,11 @@ spanned s g = take (g .end - g .start) (drop (g .start) s)
 -- the bytes of the segment with that index, of which there are at most 16
 unfoldable pub segmentBytes : List ℕ → Local → ℕ → List ℕ
 segmentBytes s l i = pick (leb (l .len) i) [] (pick (leb 16 i) [] (spanned s (getD (l .spans) i noSpan)))
+
+-- r is those bytes; a span is told in 16 bits
+pub record BytesOf (s : List ℕ) (l : Local) (i : ℕ) (r : List ℕ) : Type 0 where
+  pub is : r ≡ segmentBytes s l i
+  pub short : length r ≤ 65535
 
 -- the bytes where they are text
 abbrev pub textOnly : List ℕ → Segment → List ℕ

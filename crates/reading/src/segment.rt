@@ -6,7 +6,7 @@ use chars::place::part;
 use decimal::parse::Number;
 use decimal::parse::parse_u64;
 ghost use mathlib.Core.Path.{_≡_};
-ghost use Rattle.reading.specs.Segment.{segmentOf, segmentBytes, segmentText};
+ghost use Rattle.reading.specs.Segment.{BytesOf, segmentOf, segmentText};
 
 // What a segment's bytes say: a number below 2^64, or text.
 pub enum Segment {
@@ -28,7 +28,7 @@ pub fn segment_of(bytes: &[u8]) -> Segment
 
 // The bytes of the segment with that index, and none where there is no such segment.
 pub fn segment_bytes(s: &[u8], local: Local, i: usize) -> &[u8]
-    ensures { λ r. ⌜ now r ≡ segmentBytes (now (s .entry)) local i ⌝ }
+    ensures { λ r. ⌜ BytesOf (now (s .entry)) local i (now r) ⌝ }
 {
     let len = local.len;
     if len <= i {

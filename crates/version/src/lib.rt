@@ -1,9 +1,11 @@
 // The version layer's promises: each entry point takes any bytes, and says all of its answer.
+use answers::Written;
 use reading::text::PatternReading;
 use reading::text::Reading;
 use reading::text::read_pattern;
 use reading::text::read_version;
 ghost use mathlib.Core.Path.{_≡_};
+ghost use Rattle.normal.specs.Normal.{NormalPrinted};
 ghost use Rattle.reading.specs.Reading.{Read, VersionRead, patternOf, versionOf};
 ghost use Rattle.reading.specs.Segment.{segmentText};
 
@@ -26,4 +28,11 @@ pub fn segment(text: &[u8], index: usize) -> &[u8]
     ensures { λ r. ⌜ now r ≡ segmentText (now (text .entry)) index ⌝ }
 {
     reading::segment::segment_text(text, index)
+}
+
+// Writes the normal text of a version to the front of a buffer. A refused call leaves the buffer as it was, and success what lies behind the text.
+pub fn normal(text: &[u8], buffer: &mut [u8]) -> Written
+    ensures { λ r. ⌜ NormalPrinted (now (text .entry)) (now (buffer .entry)) (now (buffer .exit)) r ⌝ }
+{
+    normal::text::print_normal(text, buffer)
 }

@@ -7,7 +7,7 @@ use borrow.Author.Needs.{needs}
 use borrow.Fn.Kinds.{In}
 use borrow.Fn.PlainCycle.{Measures, is, falls, and}
 use Rattle.decimal.proofs.Figures.{one-digit, more-digits}
-use Rattle.decimal.proofs.Puts.{then, retext}
+use Rattle.decimal.proofs.Puts.{then, retext, number-put}
 use Rattle.decimal.proofs.put.put_number.Reads as put-number
 use Rattle.decimal.proofs.put.put_number.Kinds as put-number-kinds
 use Rattle.decimal.proofs.put.+put_number.Lts-put_number as put-number-lts
@@ -38,6 +38,8 @@ pub +put-number-spec : {M : Type 1} → statement M
     (λ c. omega arith)
     (λ c κs. search needs)
     (λ c. search needs)
-    (λ c. retext (sym (one-digit _ (search needs))) (c .before .before .put-byte .ensures))
+    (λ c. number-put (retext (sym (one-digit _ (search needs))) (c .before .before .put-byte .ensures .wrote)) (search needs))
     (λ c. search needs)
-    (λ c. retext (sym (more-digits _ (search needs))) (then (c .before .before .before .before .before .before .put-number .ensures) (c .before .before .put-byte2 .ensures)))
+    (λ c.
+    let whole = then (c .before .before .before .before .before .before .put-number .ensures .wrote) (c .before .before .put-byte2 .ensures .wrote) in
+    number-put (retext (sym (more-digits _ (search needs))) whole) (search needs))

@@ -14,6 +14,6 @@ put-byte-spec =
     (λ c. search needs)
     (λ c. search needs)
     (λ c. search needs)
-    (λ c. byte-out _ _ _ _ (search needs) (omega arith) (omega arith))
+    (λ c. record { wrote = byte-out _ _ _ _ (search needs) (omega arith) (omega arith); near = search needs })
     (λ c. search needs)
-    (λ c. byte-out _ _ _ _ (search needs) (omega arith) (omega arith)))
+    (λ c. record { wrote = byte-out _ _ _ _ (search needs) (omega arith) (omega arith); near = search needs }))

@@ -12,12 +12,12 @@ segment-bytes-spec =
     tie.close
     (tie.spec
     (λ c. search needs)
-    (λ c. search cases)
+    (λ c. record { is = search cases; short = search needs })
     (λ c. search needs)
-    (λ c. search cases)
+    (λ c. record { is = search cases; short = search needs })
     (λ c. search needs)
     (λ c. search needs)
     (λ c. search needs)
     (λ c. search needs)
     (λ c κs. search needs)
-    (λ c. search cases))
+    (λ c. record { is = search cases; short = search needs }))

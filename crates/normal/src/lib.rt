@@ -1,0 +1,4 @@
+// Writing a version's normal text.
+pub mod label;
+pub mod numbers;
+pub mod text;

@@ -1,0 +1,10 @@
+pub mod Anchors
+pub mod Ordering
+pub mod Numbers
+pub mod Derived
+pub mod Combined
+pub mod Lists
+pub mod Missing
+pub mod Padded
+pub mod Preorder
+pub mod Answer

@@ -1,0 +1,11 @@
+-- What holds of every element of a list holds of every element of a longer one, or in a weaker form. Assumes nothing.
+use mathlib.Core.List.{List, [], _∷_, _++_}
+use Rattle.order.specs.All.{All}
+
+pub all-append : {A : Type 0} (Q : A → Type 0) (l m : List A) → All Q l → All Q m → All Q (l ++ m)
+all-append Q [] m a b = b
+all-append Q (x ∷ l) m a b = (a .0, all-append Q l m (a .1) b)
+
+pub all-weaker : {A : Type 0} (Q R : A → Type 0) → ((x : A) → Q x → R x) → (l : List A) → All Q l → All R l
+all-weaker Q R f [] a = tt
+all-weaker Q R f (x ∷ l) a = (f x (a .0), all-weaker Q R f l (a .1))

@@ -1,0 +1,15 @@
+pub mod Anchors
+pub mod Truth
+pub mod Elements
+pub mod Clip
+pub mod Member
+pub mod Ascend
+pub mod Count
+pub mod Unique
+pub mod Longest
+pub mod First
+pub mod Table
+pub mod Map
+pub mod Grow
+pub mod Cuts
+pub mod Plain
