@@ -1,0 +1,99 @@
+// A question's answer, by its first word.
+use crate::decode::Decoded;
+use crate::decode::Natural;
+use crate::decode::decode;
+use crate::decode::read_natural;
+use crate::say::put_hex;
+use crate::say::put_reading;
+use crate::say::put_written;
+use crate::words::word;
+use crate::words::word_count;
+use chars::place::part;
+use check::same;
+use decimal::put::put_byte;
+use decimal::put::put_bytes;
+ghost use Prim.Native.Nat.{_≤_};
+ghost use lib.ListN.{length};
+
+pub(crate) const LONGEST_LINE: usize = 65536;
+
+// The longest buffer that a question may lend.
+const LARGEST_ROOM: usize = 16384;
+
+// Puts the answer and a line feed into the buffer, and says how long they are.
+pub(crate) fn answer(line: &[u8], out: &mut [u8]) -> usize {
+    if LONGEST_LINE < line.len() {
+        let end = no_question(out);
+        return put_byte(out, end, b'\n');
+    }
+    let mut texts = io::large_buffer();
+    let end = answer_words(line, &mut texts, out);
+    put_byte(out, end, b'\n')
+}
+
+fn no_question(out: &mut [u8]) -> usize {
+    put_bytes(out, 0, b"not a question")
+}
+
+fn answer_words(line: &[u8], texts: &mut [u8], out: &mut [u8]) -> usize {
+    let count = word_count(line);
+    let kind = word(line, 0);
+    let Decoded::End(end) = decode(word(line, 1), texts, 0) else {
+        return no_question(out);
+    };
+    if count == 2 {
+        return of_text(kind, part(texts, 0, end), out);
+    }
+    if count != 3 {
+        return no_question(out);
+    }
+    match read_natural(word(line, 2)) {
+        Natural::Is(n) => of_text_and_number(kind, part(texts, 0, end), n, out),
+        Natural::Bad => no_question(out),
+    }
+}
+
+fn of_text(kind: &[u8], text: &[u8], out: &mut [u8]) -> usize {
+    if same(kind, b"read") {
+        let read = version::read(text);
+        let verdict = read.verdict;
+        let fields = read.version;
+        return put_reading(out, text, b"ok ", verdict, fields);
+    }
+    if same(kind, b"pattern") {
+        return of_pattern(text, out);
+    }
+    no_question(out)
+}
+
+fn of_pattern(text: &[u8], out: &mut [u8]) -> usize {
+    let read = version::pattern(text);
+    let verdict = read.verdict;
+    let fields = read.version;
+    if read.wildcard {
+        return put_reading(out, text, b"ok* ", verdict, fields);
+    }
+    put_reading(out, text, b"ok ", verdict, fields)
+}
+
+fn of_text_and_number(kind: &[u8], text: &[u8], n: usize, out: &mut [u8]) -> usize {
+    if same(kind, b"segment") {
+        return put_hex(out, 0, version::segment(text, n));
+    }
+    if LARGEST_ROOM < n {
+        return no_question(out);
+    }
+    if same(kind, b"normal") {
+        let mut buffer = [165u8; 16384];
+        return of_normal(text, &mut buffer, n, out);
+    }
+    no_question(out)
+}
+
+// In the first n bytes of a buffer.
+fn of_normal(text: &[u8], buffer: &mut [u8], n: usize, out: &mut [u8]) -> usize
+    requires { ⌜ n ≤ length (now buffer) ⌝ }
+{
+    let written = version::normal(text, &mut buffer[..n]);
+    put_written(out, written, part(buffer, 0, n))
+}
