@@ -6,3 +6,4 @@ pub mod Answers
 pub mod Covering
 pub mod Exactly
 pub mod Numbers
+pub mod Unique

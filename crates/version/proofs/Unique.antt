@@ -1,0 +1,24 @@
+-- Two results that meet one statement are the same.
+-- Assumes nothing.
+use mathlib.Core.Path.{_≡_, sym, _∙_}
+use mathlib.Core.List.{List}
+use Prim.Native.Nat.{ℕ}
+use Rattle.answers.specs.declared.Written.{Written}
+use Rattle.reading.specs.declared.text.Reading.{Reading}
+use Rattle.reading.specs.declared.text.PatternReading.{PatternReading}
+use Rattle.reading.specs.Reading.{Read, VersionRead}
+use Rattle.normal.specs.Normal.{NormalPrinted}
+
+pub one-reading : {spec r q : Reading} → VersionRead spec r → VersionRead spec q → r ≡ q
+one-reading p q = p .is ∙ sym (q .is)
+
+pub one-pattern : {spec r q : PatternReading} → Read spec r → Read spec q → r ≡ q
+one-pattern p q = p .is ∙ sym (q .is)
+
+-- the bytes of a segment
+pub one-segment : {spec r q : List ℕ} → r ≡ spec → q ≡ spec → r ≡ q
+one-segment p q = p ∙ sym q
+
+-- the answer and the buffer afterwards
+pub one-normal : {s old new new′ : List ℕ} {r q : Written} → NormalPrinted s old new r → NormalPrinted s old new′ q → (r ≡ q) × (new ≡ new′)
+one-normal p q = (p .answers ∙ sym (q .answers), p .leaves ∙ sym (q .leaves))
