@@ -2,7 +2,7 @@
 -- Assumes nothing.
 use mathlib.Core.Path.{_≡_, refl, sym, _∙_, ap}
 use mathlib.Core.List.{List}
-use Prim.Native.Nat.{ℕ, _+_, _-_, _^_, _≤_, _<_}
+use Prim.Native.Nat.{ℕ, _+_, _-_, _*_, _^_, _≤_, _<_}
 use native.Mathlib.Omega.{arith}
 use mir.Val.{Fits}
 use mir.Syntax.{w64}
@@ -15,7 +15,7 @@ use Rattle.decimal.specs.declared.parse.Leading.the-variants.{Absent as NoLeadi
 use Rattle.decimal.specs.Parse.{leadingOf, leadingLength}
 use Rattle.reading.specs.declared.places.NumberAt.{NumberAt}
 use Rattle.reading.specs.declared.places.NumberAt.the-variants.{Absent, Read, TooBig}
-use Rattle.reading.specs.Places.{separatorEnd, numberAt, onNumber, numberNext}
+use Rattle.reading.specs.Places.{separatorEnd, numberAt, onNumber, numberNext, behindMark}
 
 -- the byte k at the place has class r
 module _ (s : List ℕ) (at k r : ℕ) (e : k ≡ getD s at 0) (f : r ≡ classOf k) where
@@ -67,3 +67,20 @@ pub ruleset numbers = (if-none, if-read, if-big)
 -- the place behind a number that was read lies within the text
 pub read-within : (s : List ℕ) (r : NumberAt) (n next : ℕ) → numberNext r ≤ length s → r ≡ Read n next → next ≤ length s
 read-within s r n next h f = rw f at h
+
+-- the mark k stands at the place, so that the place behind it lies within the text
+pub behind-mark : (s : List ℕ) (at : ℕ) (r : NumberAt) (k mark : ℕ) → k ≤ 255 * (length s - at) → k ≡ mark → 1 ≤ mark → behindMark at r ≤ length s
+behind-mark s at Absent k mark h e g = omega arith
+behind-mark s at (Read n next) k mark h e g = omega arith
+behind-mark s at TooBig k mark h e g = omega arith
+
+pub mark-big : (s : List ℕ) (at : ℕ) (r : NumberAt) → behindMark at r ≤ length s → r ≡ TooBig → at + 1 ≤ length s
+mark-big s at r g f = rw f at g
+
+-- a place x that is not behind the mark lies within the text
+module _ (s : List ℕ) (at x : ℕ) (r : NumberAt) (h : x ≤ at + 1) (g : behindMark at r ≤ length s) where
+  pub near-big : r ≡ TooBig → x ≤ length s
+  near-big f = omega (arith, rw f at g)
+
+  pub near-read : (n next : ℕ) → r ≡ Read n next → x ≤ length s
+  near-read n next f = omega (arith, rw f at g)

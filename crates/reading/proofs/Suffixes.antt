@@ -49,11 +49,20 @@ module _ (s : List ℕ) (at d : ℕ) (r : NumberAt) (a : d ≡ separatorEnd s at
 pub count-within : (s : List ℕ) (r : Count) (n next : ℕ) → countNext r ≤ length s → r ≡ Counted n next → next ≤ length s
 count-within s r n next h f = rw f at h
 
+pub count-big-within : (s : List ℕ) (r : Count) (d : ℕ) → countNext r ≤ length s → r ≡ CountTooBig d → d ≤ length s
+count-big-within s r d h f = rw f at h
+
 pub pre-within : (s : List ℕ) (r : PreStep) (pre : Pre) (next : ℕ) → preNext r ≤ length s → r ≡ PreIs pre next → next ≤ length s
 pre-within s r pre next h f = rw f at h
 
+pub pre-big-within : (s : List ℕ) (r : PreStep) (d : ℕ) → preNext r ≤ length s → r ≡ PreTooBig d → d ≤ length s
+pre-big-within s r d h f = rw f at h
+
 pub part-within : (s : List ℕ) (r : PartStep) (part : Part) (next : ℕ) → partNext r ≤ length s → r ≡ PartIs part next → next ≤ length s
 part-within s r part next h f = rw f at h
+
+pub part-big-within : (s : List ℕ) (r : PartStep) (d : ℕ) → partNext r ≤ length s → r ≡ PartTooBig d → d ≤ length s
+part-big-within s r d h f = rw f at h
 
 -- a pre-release's spelling r is looked for at `from`
 module _ (s : List ℕ) (at from : ℕ) (r : PreSpelling) (a : from ≡ separatorEnd s at) (e : r ≡ preSpelling (take (length s - from) (drop from s))) where
@@ -134,6 +143,9 @@ module _ (s : List ℕ) (at : ℕ) (p : PreStep) (e : p ≡ preAt s at) where
       pub suffix-read : (dev : Part) (next : ℕ) → r ≡ PartIs dev next → Read pre post dev next ≡ suffixAt s at
       unfolding suffixAt
       suffix-read dev next j = rw (← e, f, ← g, h, ← i, j)
+
+pub suffix-big-within : (s : List ℕ) (r : Suffix) (d : ℕ) → suffixNext r ≤ length s → r ≡ TooBig d → length s ≤ 1024 → d ≤ 1024
+suffix-big-within s r d h f g = omega (arith, rw f at h)
 
 pub suffix-within : (s : List ℕ) (r : Suffix) (pre : Pre) (post dev : Part) (next : ℕ) → suffixNext r ≤ length s → r ≡ Read pre post dev next → next ≤ length s
 suffix-within s r pre post dev next h f = rw f at h

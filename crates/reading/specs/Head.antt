@@ -57,8 +57,9 @@ headAt s at =
 unfoldable pub headOf : List ℕ → Head
 headOf s = headAt s (leadEnd s)
 
--- r is what the rule gives as `spec`, and goes no further than `end`
+-- r is what the rule gives as `spec`, and names no place behind `end`
 pub record Headed (end : ℕ) (spec r : Head) : Type 0 where
   pub is : r ≡ spec
   pub within : r .at ≤ end
+  pub near : r .place ≤ end
   pub few : r .release .len ≤ 16

@@ -44,8 +44,9 @@ segmentsFrom (suc room) s local at =
 unfoldable pub labelAt : List ℕ → ℕ → Label
 labelAt s at = pick (eqb (getD s at 0) (code "+")) (segmentsFrom 16 s noLocal (at + 1)) (labelRead noLocal at)
 
--- r is what the rule gives as `spec`, and goes no further than `end`
+-- r is what the rule gives as `spec`, and names no place behind `end`
 pub record Labelled (end : ℕ) (spec r : Label) : Type 0 where
   pub is : r ≡ spec
   pub within : r .at ≤ end
+  pub near : r .place ≤ end
   pub few : r .local .len ≤ 16

@@ -54,3 +54,14 @@ numberNext TooBig = 0
 pub record NumberedAt (s : List ℕ) (spec r : NumberAt) : Type 0 where
   pub is : r ≡ spec
   pub within : numberNext r ≤ length s
+
+-- the place behind the mark, where it is there with a digit behind it
+abbrev pub behindMark : ℕ → NumberAt → ℕ
+behindMark at Absent = 0
+behindMark at (Read n next) = at + 1
+behindMark at TooBig = at + 1
+
+pub record MarkedAt (s : List ℕ) (at : ℕ) (spec r : NumberAt) : Type 0 where
+  pub is : r ≡ spec
+  pub within : numberNext r ≤ length s
+  pub behind : behindMark at r ≤ length s

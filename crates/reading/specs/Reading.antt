@@ -20,6 +20,7 @@ use Rattle.reading.specs.declared.head.Head.{Head}
 use Rattle.reading.specs.declared.suffix.Suffix.{Suffix}
 use Rattle.reading.specs.declared.suffix.Suffix.the-variants.{Read as SuffixRead, TooBig as SuffixTooBig}
 use Rattle.reading.specs.declared.label.Label.{Label}
+use Rattle.reading.specs.declared.text.Verdict.{Verdict}
 use Rattle.reading.specs.declared.text.Verdict.the-variants.{Accepted, Refused}
 use Rattle.reading.specs.declared.text.PatternReading.{PatternReading}
 use Rattle.reading.specs.declared.text.Reading.{Reading}
@@ -101,13 +102,20 @@ withoutWildcard r = record { verdict = r .verdict; version = r .version }
 unfoldable pub versionOf : List ℕ → Reading
 versionOf s = withoutWildcard (patternAs false s)
 
+-- the place of a refusal
+abbrev pub placeOf : Verdict → ℕ
+placeOf Accepted = 0
+placeOf (Refused x) = x .place
+
 -- what a caller may count on beside the equation
 pub record Read (spec r : PatternReading) : Type 0 where
   pub is : r ≡ spec
   pub few : r .version .release .len ≤ 16
   pub short : r .version .local .len ≤ 16
+  pub near : placeOf (r .verdict) ≤ longest
 
 pub record VersionRead (spec r : Reading) : Type 0 where
   pub is : r ≡ spec
   pub few : r .version .release .len ≤ 16
   pub short : r .version .local .len ≤ 16
+  pub near : placeOf (r .verdict) ≤ longest

@@ -90,10 +90,10 @@ suffixFrom s (PreTooBig d) = TooBig d
 unfoldable pub suffixAt : List ℕ → ℕ → Suffix
 suffixAt s at = suffixFrom s (preAt s at)
 
--- the place behind a part, within the text
+-- the place that an answer names, within the text: behind the part, or of digits that are too big
 abbrev pub countNext : Count → ℕ
 countNext (Counted n next) = next
-countNext (CountTooBig d) = 0
+countNext (CountTooBig d) = d
 
 pub record CountRead (s : List ℕ) (spec r : Count) : Type 0 where
   pub is : r ≡ spec
@@ -101,7 +101,7 @@ pub record CountRead (s : List ℕ) (spec r : Count) : Type 0 where
 
 abbrev pub preNext : PreStep → ℕ
 preNext (PreIs pre next) = next
-preNext (PreTooBig d) = 0
+preNext (PreTooBig d) = d
 
 pub record PreRead (s : List ℕ) (spec r : PreStep) : Type 0 where
   pub is : r ≡ spec
@@ -109,7 +109,7 @@ pub record PreRead (s : List ℕ) (spec r : PreStep) : Type 0 where
 
 abbrev pub partNext : PartStep → ℕ
 partNext (PartIs part next) = next
-partNext (PartTooBig d) = 0
+partNext (PartTooBig d) = d
 
 pub record PartRead (s : List ℕ) (spec r : PartStep) : Type 0 where
   pub is : r ≡ spec
@@ -117,7 +117,7 @@ pub record PartRead (s : List ℕ) (spec r : PartStep) : Type 0 where
 
 abbrev pub suffixNext : Suffix → ℕ
 suffixNext (Read pre post dev next) = next
-suffixNext (TooBig d) = 0
+suffixNext (TooBig d) = d
 
 pub record SuffixRead (s : List ℕ) (spec r : Suffix) : Type 0 where
   pub is : r ≡ spec

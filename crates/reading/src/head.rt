@@ -22,7 +22,7 @@ pub struct Head {
 }
 
 fn refused(number: u8, place: usize) -> Head
-    ensures { λ r. ⌜ Headed 0 (headRefused number place) r ⌝ }
+    ensures { λ r. ⌜ Headed place (headRefused number place) r ⌝ }
 {
     let release = Release::none();
     Head {

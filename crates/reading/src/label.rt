@@ -19,7 +19,7 @@ pub struct Label {
 }
 
 fn refused(number: u8, place: usize) -> Label
-    ensures { λ r. ⌜ Labelled 0 (labelRefused number place) r ⌝ }
+    ensures { λ r. ⌜ Labelled place (labelRefused number place) r ⌝ }
 {
     let local = Local::none();
     Label {

@@ -5,7 +5,7 @@ use decimal::parse::Leading;
 use decimal::parse::leading_number;
 ghost use Prim.Native.Nat.{_≤_};
 ghost use lib.ListN.{length};
-ghost use Rattle.reading.specs.Places.{Stepped, NumberedAt, separatorEnd, numberAt, markedNumber};
+ghost use Rattle.reading.specs.Places.{Stepped, NumberedAt, MarkedAt, separatorEnd, numberAt, markedNumber};
 
 // A number at a place: none, its value and the place behind it, or one of 2^64 and more.
 pub enum NumberAt {
@@ -38,7 +38,7 @@ pub(crate) fn number_at(s: &[u8], at: usize) -> NumberAt
 // The mark, and a number right behind it.
 pub(crate) fn marked_number(s: &[u8], at: usize, mark: u8) -> NumberAt
     requires { ⌜ (at ≤ length (now s)) × (1 ≤ mark) ⌝ }
-    ensures { λ r. ⌜ NumberedAt (now (s .entry)) (markedNumber mark (now (s .entry)) at) r ⌝ }
+    ensures { λ r. ⌜ MarkedAt (now (s .entry)) at (markedNumber mark (now (s .entry)) at) r ⌝ }
 {
     if byte_at(s, at) != mark {
         return NumberAt::Absent;

@@ -34,6 +34,7 @@ pub struct Reading {
 }
 
 fn refused(number: u8, place: usize) -> PatternReading
+    requires { ⌜ place ≤ 1024 ⌝ }
     ensures { λ r. ⌜ Read (refusedWith number place) r ⌝ }
 {
     let release = Release::none();
@@ -55,7 +56,7 @@ fn refused(number: u8, place: usize) -> PatternReading
 
 // Rule 4, at `.*` behind the release.
 fn read_star(s: &[u8], head: Head, wildcards: bool) -> PatternReading
-    requires { ⌜ (head .at + 2 ≤ length (now s)) × (head .release .len ≤ 16) ⌝ }
+    requires { ⌜ (head .at + 2 ≤ length (now s)) × (length (now s) ≤ 1024) × (head .release .len ≤ 16) ⌝ }
     ensures { λ r. ⌜ Read (starred wildcards (now (s .entry)) head) r ⌝ }
 {
     let at = head.at;

@@ -6,7 +6,7 @@ use lib.ListN.{length}
 use borrow.Author.Needs.{needs}
 use Rattle.reading.specs.Fields.{onlyNumber}
 use Rattle.reading.specs.Head.{releaseFrom}
-use Rattle.reading.proofs.AtPlaces.{read-within}
+use Rattle.reading.proofs.AtPlaces.{read-within, near-big, near-read}
 use Rattle.reading.proofs.Heads.{release-done, release-big, release-full, release-more}
 use Rattle.reading.proofs.head.read_release.Statement.{statement}
 use Rattle.reading.proofs.head.read_release.Tie as tie
@@ -30,15 +30,15 @@ read-release-spec =
     (λ c. rw (c .only .ensures .is) (search needs, search needs, refl))
     (λ c κs. search needs)
     (λ c. search needs)
-    (λ c. record { is = search release-done; within = search needs; few = search needs })
+    (λ c. record { is = search release-done; within = search needs; near = search needs; few = search needs })
     (λ c. search needs)
     (λ c. search needs)
     (λ c κs. search needs)
-    (λ c. record { is = search release-big; within = search needs; few = search needs })
+    (λ c. record { is = search release-big; within = search near-big; near = search near-big; few = search needs })
     (λ c. search needs)
     (λ c. search needs)
     (λ c κs. search needs)
-    (λ c. record { is = search release-full; within = search needs; few = search needs })
+    (λ c. record { is = search release-full; within = search near-read; near = search near-read; few = search needs })
     (λ c κs. search needs)
     (λ c. search needs)
     (λ c. (search needs, search read-within, search release-more)))

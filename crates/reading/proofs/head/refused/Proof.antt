@@ -9,4 +9,4 @@ refused-spec =
     tie.close
     (tie.spec
     (λ c κs. search needs)
-    (λ c. record { is = rw (c .none .ensures .is); within = search needs; few = search needs }))
+    (λ c. record { is = rw (c .none .ensures .is); within = search needs; near = search needs; few = search needs }))

@@ -15,6 +15,6 @@ read-label-spec =
     (λ c κs. search needs)
     (λ c. search needs)
     (λ c κs. search needs)
-    (λ c. record { is = search cases; within = search needs; few = search needs })
+    (λ c. record { is = search cases; within = search needs; near = search needs; few = search needs })
     (λ c κs. search needs)
-    (λ c. record { is = search label-none; within = search needs; few = search needs }))
+    (λ c. record { is = search label-none; within = search needs; near = search needs; few = search needs }))

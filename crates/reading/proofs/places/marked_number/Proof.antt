@@ -3,6 +3,7 @@
 use borrow.Author.Needs.{needs}
 use Rattle.chars.proofs.Cases.{cases}
 use Rattle.reading.specs.Places.{markedNumber}
+use Rattle.reading.proofs.AtPlaces.{behind-mark}
 use Rattle.reading.proofs.places.marked_number.Statement.{statement}
 use Rattle.reading.proofs.places.marked_number.Tie as tie
 
@@ -12,7 +13,7 @@ marked-number-spec =
     tie.close
     (tie.spec
     (λ c κs. search needs)
-    (λ c. record { is = search cases; within = search needs })
+    (λ c. record { is = search cases; within = search needs; behind = search needs })
     (λ c. search needs)
     (λ c κs. search needs)
-    (λ c. record { is = search cases; within = search needs }))
+    (λ c. record { is = search cases; within = search needs; behind = search behind-mark }))

@@ -2,7 +2,7 @@
 -- Assumes nothing.
 use borrow.Author.Needs.{needs}
 use Rattle.reading.specs.Suffix.{postAt}
-use Rattle.reading.proofs.AtPlaces.{numbers, read-within}
+use Rattle.reading.proofs.AtPlaces.{numbers, read-within, mark-big}
 use Rattle.reading.proofs.suffix.read_post.Statement.{statement}
 use Rattle.reading.proofs.suffix.read_post.Tie as tie
 
@@ -19,4 +19,4 @@ read-post-spec =
     (λ c. search needs)
     (λ c. record { is = search numbers; within = search needs })
     (λ c. record { is = search numbers; within = search read-within })
-    (λ c. record { is = search numbers; within = search needs }))
+    (λ c. record { is = search numbers; within = search mark-big }))

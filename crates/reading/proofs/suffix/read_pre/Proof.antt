@@ -1,7 +1,7 @@
 -- `reading::suffix::read_pre` meets its contract: one law for each way out.
 -- Assumes nothing.
 use borrow.Author.Needs.{needs}
-use Rattle.reading.proofs.Suffixes.{pre-none, pre-ends, pre-fits, pre-read, pre-big, count-within}
+use Rattle.reading.proofs.Suffixes.{pre-none, pre-ends, pre-fits, pre-read, pre-big, count-within, count-big-within}
 use Rattle.reading.proofs.suffix.read_pre.Statement.{statement}
 use Rattle.reading.proofs.suffix.read_pre.Tie as tie
 
@@ -22,4 +22,4 @@ read-pre-spec =
     (λ c. search needs)
     (λ c. search needs)
     (λ c. record { is = search pre-read; within = search count-within })
-    (λ c. record { is = search pre-big; within = search needs }))
+    (λ c. record { is = search pre-big; within = search count-big-within }))

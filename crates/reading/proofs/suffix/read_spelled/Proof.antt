@@ -1,7 +1,7 @@
 -- `reading::suffix::read_spelled` meets its contract: one law for each way out.
 -- Assumes nothing.
 use borrow.Author.Needs.{needs}
-use Rattle.reading.proofs.Suffixes.{part-none, found-ends, found-fits, part-read, part-big, count-within}
+use Rattle.reading.proofs.Suffixes.{part-none, found-ends, found-fits, part-read, part-big, count-within, count-big-within}
 use Rattle.reading.proofs.suffix.read_spelled.Statement.{statement}
 use Rattle.reading.proofs.suffix.read_spelled.Tie as tie
 
@@ -17,4 +17,4 @@ read-spelled-spec =
     (λ c. search needs)
     (λ c. search needs)
     (λ c. record { is = search part-read; within = search count-within })
-    (λ c. record { is = search part-big; within = search needs }))
+    (λ c. record { is = search part-big; within = search count-big-within }))

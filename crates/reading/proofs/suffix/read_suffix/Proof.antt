@@ -1,7 +1,7 @@
 -- `reading::suffix::read_suffix` meets its contract: one law for each way out.
 -- Assumes nothing.
 use borrow.Author.Needs.{needs}
-use Rattle.reading.proofs.Suffixes.{pre-within, part-within, suffix-pre-big, suffix-post-big, suffix-dev-big, suffix-read}
+use Rattle.reading.proofs.Suffixes.{pre-within, pre-big-within, part-within, part-big-within, suffix-pre-big, suffix-post-big, suffix-dev-big, suffix-read}
 use Rattle.reading.proofs.suffix.read_suffix.Statement.{statement}
 use Rattle.reading.proofs.suffix.read_suffix.Tie as tie
 
@@ -18,7 +18,7 @@ read-suffix-spec =
     (λ c κs. search part-within)
     (λ c. search needs)
     (λ c. search needs)
-    (λ c. record { is = search suffix-pre-big; within = search needs })
-    (λ c. record { is = search suffix-post-big; within = search needs })
-    (λ c. record { is = search suffix-dev-big; within = search needs })
+    (λ c. record { is = search suffix-pre-big; within = search pre-big-within })
+    (λ c. record { is = search suffix-post-big; within = search part-big-within })
+    (λ c. record { is = search suffix-dev-big; within = search part-big-within })
     (λ c. record { is = search suffix-read; within = search part-within }))

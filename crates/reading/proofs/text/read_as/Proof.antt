@@ -9,7 +9,7 @@ use Rattle.reading.proofs.text.read_as.Tie as tie
 
 long : tie.Need-returns
 unfolding patternAs
-long c = record { is = search cases; few = search needs; short = search needs }
+long c = record { is = search cases; few = search needs; short = search needs; near = search needs }
 
 pub read-as-spec : {M : Type 1} → statement M
 read-as-spec =
@@ -19,13 +19,13 @@ read-as-spec =
     long
     (λ c κs. search needs)
     (λ c κs. search needs)
-    (λ c. record { is = search whole-head; few = search needs; short = search needs })
+    (λ c. record { is = search whole-head; few = search needs; short = search needs; near = search needs })
     (λ c. search needs)
     (λ c. search needs)
     (λ c. search needs)
     (λ c. search needs)
     (λ c κs. search needs)
-    (λ c κs. (search star-ends, search needs))
-    (λ c. record { is = search whole-star; few = search needs; short = search needs })
+    (λ c κs. (search star-ends, search needs, search needs))
+    (λ c. record { is = search whole-star; few = search needs; short = search needs; near = search needs })
     (λ c κs. search needs)
-    (λ c. record { is = search whole-rest; few = search needs; short = search needs }))
+    (λ c. record { is = search whole-rest; few = search needs; short = search needs; near = search needs }))

@@ -1,7 +1,7 @@
 -- `reading::text::read_rest` meets its contract: one law for each way out.
 -- Assumes nothing.
 use borrow.Author.Needs.{needs}
-use Rattle.reading.proofs.Suffixes.{suffix-within}
+use Rattle.reading.proofs.Suffixes.{suffix-within, suffix-big-within}
 use Rattle.reading.proofs.Wholes.{rest-big, rest-read}
 use Rattle.reading.proofs.text.read_rest.Statement.{statement}
 use Rattle.reading.proofs.text.read_rest.Tie as tie
@@ -12,8 +12,8 @@ read-rest-spec =
     (tie.spec
     (λ c κs. search needs)
     (λ c. search needs)
-    (λ c κs. search needs)
+    (λ c κs. search suffix-big-within)
     (λ c. search needs)
     (λ c κs. (search suffix-within, search needs, search needs))
-    (λ c. record { is = search rest-big; few = search needs; short = search needs })
-    (λ c. record { is = search rest-read; few = search needs; short = search needs }))
+    (λ c. record { is = search rest-big; few = search needs; short = search needs; near = search needs })
+    (λ c. record { is = search rest-read; few = search needs; short = search needs; near = search needs }))

@@ -10,4 +10,4 @@ read-version-spec =
     tie.close
     (tie.spec
     (λ c κs. search needs)
-    (λ c. record { is = search version-is; few = search needs; short = search needs }))
+    (λ c. record { is = search version-is; few = search needs; short = search needs; near = search needs }))

@@ -10,4 +10,4 @@ refused-spec =
     (tie.spec
     (λ c κs. search needs)
     (λ c κs. search needs)
-    (λ c. record { is = rw (c .none2 .ensures .is, c .before .none .ensures .is); few = search needs; short = search needs }))
+    (λ c. record { is = rw (c .none2 .ensures .is, c .before .none .ensures .is); few = search needs; short = search needs; near = search needs }))
