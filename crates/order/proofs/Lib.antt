@@ -8,3 +8,4 @@ pub mod Missing
 pub mod Padded
 pub mod Preorder
 pub mod Answer
+pub mod Elements

@@ -15,7 +15,7 @@ use Rattle.ranges.specs.Shape.{Shape, span, hole, lowerEnd, upperEnd, Pr
 use Rattle.ranges.specs.Compile.{tighter, narrow, clip, step, compile, table}
 use Rattle.ranges.specs.Table.{first, IsFirst, Firsts}
 use Rattle.ranges.proofs.Truth.{by-test, cond-behind}
-use Rattle.ranges.proofs.Elements.{all-append, all-weaker}
+use Rattle.order.proofs.Elements.{all-append, all-weaker}
 use Rattle.ranges.proofs.Clip.{old-lower, new-lower, old-upper, new-upper, clip-all}
 
 module _ {P : Type 0} (le : P → P → Bool) where

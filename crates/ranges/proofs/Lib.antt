@@ -1,6 +1,5 @@
 pub mod Anchors
 pub mod Truth
-pub mod Elements
 pub mod Clip
 pub mod Member
 pub mod Ascend

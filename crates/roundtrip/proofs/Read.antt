@@ -1,0 +1,164 @@
+-- What any text says, if it is accepted: a value that can be read, and whose normal text has at most nine bytes more than the text.
+-- Assumes nothing.
+use mathlib.Core.Path.{_≡_, refl, subst}
+use mathlib.Core.Bool.{false}
+use mathlib.Core.List.{List, map}
+use Prim.Native.Nat.{ℕ, _+_, _≤_}
+use native.Mathlib.Omega.{arith}
+use lib.Dec.{eqb, ltb}
+use lib.ListN.{length, take, drop, length-take, length-map}
+use borrow.Author.Tests.{eqb-true, ltb-false}
+use Rattle.chars.specs.Pick.{pick}
+use Rattle.chars.specs.Text.{ascii}
+use Rattle.chars.specs.Class.{blank, between, front}
+use Rattle.chars.specs.Case.{startsWith}
+use Rattle.reading.specs.declared.fields.Pre.{Pre}
+use Rattle.reading.specs.declared.fields.Part.{Part}
+use Rattle.reading.specs.declared.fields.Local.{Local}
+use Rattle.reading.specs.declared.fields.Version.{Version}
+use Rattle.reading.specs.declared.head.Head.{Head}
+use Rattle.reading.specs.declared.label.Label.{Label}
+use Rattle.reading.specs.declared.suffix.Suffix.{Suffix}
+use Rattle.reading.specs.declared.suffix.Suffix.the-variants.{Read as SuffixIs, TooBig}
+use Rattle.reading.specs.declared.text.PatternReading.{PatternReading}
+use Rattle.reading.specs.declared.text.Verdict.{Verdict}
+use Rattle.reading.specs.declared.text.Verdict.the-variants.{Accepted, Refused}
+use Rattle.reading.specs.Head.{headOf}
+use Rattle.reading.specs.Suffix.{suffixAt}
+use Rattle.reading.specs.Label.{labelAt}
+use Rattle.reading.specs.Reading.{
+  longest,
+  noVersion,
+  fielded,
+  starred,
+  ended,
+  afterSuffix,
+  suffixed,
+  afterRelease,
+  afterHead,
+  patternAs,
+  versionOf,
+}
+use Rattle.reading.specs.Segment.{spanned}
+use Rattle.reading.specs.Value.{labelFrom, valueOf}
+use Rattle.roundtrip.specs.Text.{dottedAll, labelText, valueText}
+use Rattle.roundtrip.specs.Readable.{Readable}
+use Rattle.roundtrip.proofs.Fields.{numbersOf, segmentsOf, label-listed}
+use Rattle.roundtrip.proofs.Lengths.{parts-length, joined-length}
+use Rattle.roundtrip.proofs.ReadPlaces.{by-pick}
+use Rattle.roundtrip.proofs.ReadHead.{HeadRead, HeadSound, head-sound}
+use Rattle.roundtrip.proofs.ReadSuffix.{SuffixRead, SuffixSound, suffix-sound}
+use Rattle.roundtrip.proofs.ReadLabel.{SegmentsRead, label-sound, segments-fit, label-long}
+
+-- the fields v of an accepted text
+pub record Said (s : List ℕ) (v : Version) : Type 0 where
+  pub few : v .release .len ≤ 16
+  pub size : length (v .release .numbers) ≡ 16
+  pub readable : Readable (valueOf s v)
+  pub short : length s ≤ 1024
+  pub grows : length (valueText (valueOf s v)) ≤ length s + 9
+
+-- the parts of a text, one behind the other
+module _ (s : List ℕ) (h : Head) (pre : Pre) (post dev : Part) (next : ℕ) (local : Local) (end : ℕ)
+    (head : HeadRead s (h .epoch) (h .release) (h .at)) (suffix : SuffixRead s (h .at) pre post dev next)
+    (label : SegmentsRead s next local end) where
+  abbrev version : Version
+  version = fielded h pre post dev local
+
+  numbers : length (numbersOf (h .release)) ≡ h .release .len
+  numbers = omega (arith, length-take (h .release .len) (h .release .numbers), head .few, head .size)
+
+  segments : length (map labelFrom (segmentsOf s local)) ≤ 16
+  segments =
+      rw (length-map (segmentsOf s local) labelFrom, length-map (take (local .len) (local .spans)) (spanned s))
+      (omega (arith, length-take (local .len) (local .spans), label .size))
+
+  said-readable : Readable (valueOf s version)
+  unfolding valueOf
+  said-readable = record {
+    epoch = head .epoch-fits;
+    some = omega (arith, numbers, head .some);
+    few = omega (arith, numbers, head .few);
+    release = head .fits;
+    pre = suffix .pre-fits;
+    post = suffix .post-fits;
+    dev = suffix .dev-fits;
+    short = rw (label-listed s local (label .few) (label .size)) segments;
+    label = rw (label-listed s local (label .few) (label .size)) (segments-fit (segmentsOf s local) (label .segments));
+  }
+
+  said-label : length (labelText (valueOf s version .label)) ≤ length (dottedAll (segmentsOf s local))
+  unfolding valueOf
+  said-label = rw (label-listed s local (label .few) (label .size)) (label-long (segmentsOf s local) (label .segments))
+
+  said-grows : length (valueText (valueOf s version)) ≤ length s + 9
+  unfolding valueOf
+  said-grows =
+      let whole = parts-length (valueOf s version) in
+      let joined = joined-length (numbersOf (h .release)) (omega (arith, numbers, head .some)) in
+      omega (arith, whole, joined, said-label, head .long, suffix .grows, label .long, label .within)
+
+  said : length s ≤ 1024 → Said s version
+  said short = record { few = head .few; size = head .size; readable = said-readable; short = short; grows = said-grows }
+
+-- what a reading says, or that it says nothing
+abbrev Outcome : List ℕ → Verdict → Version → Type 0
+Outcome s Accepted v = Said s v
+Outcome s (Refused r) v = v ≡ noVersion
+
+abbrev Sound : List ℕ → PatternReading → Type 0
+Sound s r = Outcome s (r .verdict) (r .version)
+
+-- rule by rule, behind a head that was read
+module _ (s : List ℕ) (short : length s ≤ 1024) (h : Head) (head : HeadRead s (h .epoch) (h .release) (h .at)) where
+  label-read : (pre : Pre) (post dev : Part) (next : ℕ) → SuffixRead s (h .at) pre post dev next →
+      Sound s (afterSuffix s h pre post dev next)
+  unfolding afterSuffix
+  label-read pre post dev next suffix = by-pick (Sound s) (eqb (l .refusal) 0) (λ e. to-the-end (eqb-true _ _ e)) (λ e. refl)
+    where
+      l : Label
+      l = labelAt s next
+
+      end : ℕ
+      end = l .at + front (between blank blank) (drop (l .at) s)
+
+      to-the-end : l .refusal ≡ 0 → Sound s (ended s (fielded h pre post dev (l .local)) end)
+      to-the-end e =
+          let label = label-sound s next (suffix .within) e in
+          by-pick (Sound s) (ltb end (length s)) (λ f. refl)
+          (λ f. said s h pre post dev next (l .local) (l .at) head suffix label short)
+
+  suffix-read : Sound s (afterRelease s h)
+  unfolding afterRelease
+  suffix-read = go (suffixAt s (h .at)) (suffix-sound s (h .at) (head .within))
+    where
+      go : (x : Suffix) → SuffixSound s (h .at) x → Sound s (suffixed s h x)
+      go (SuffixIs pre post dev next) r = label-read pre post dev next r
+      go (TooBig d) r = refl
+
+  no-star-read : Sound s (pick (startsWith (ascii ".*") (drop (h .at) s)) (starred false s h) (afterRelease s h))
+  unfolding starred
+  no-star-read = by-pick (Sound s) (startsWith (ascii ".*") (drop (h .at) s)) (λ e. refl) (λ e. suffix-read)
+
+head-read : (s : List ℕ) → length s ≤ 1024 → (h : Head) → HeadSound s h → Sound s (afterHead false s h)
+head-read s short h sound = by-pick (Sound s) (eqb (h .refusal) 0) (λ e. no-star-read s short h (sound (eqb-true _ _ e))) (λ e. refl)
+
+reading-sound : (s : List ℕ) → Sound s (patternAs false s)
+unfolding patternAs
+reading-sound s =
+    by-pick (Sound s) (ltb longest (length s)) (λ e. refl) (λ e. head-read s (ltb-false _ _ e) (headOf s) (head-sound s))
+
+outcome : (s : List ℕ) → Outcome s (versionOf s .verdict) (versionOf s .version)
+unfolding versionOf
+outcome s = reading-sound s
+
+pub accepted-said : (s : List ℕ) → versionOf s .verdict ≡ Accepted → Said s (versionOf s .version)
+accepted-said s e = subst (λ (x : Verdict). Outcome s x (versionOf s .version)) e (outcome s)
+
+-- also of a refused text, which has no fields
+pub release-shape : (s : List ℕ) → let r = versionOf s .version .release in (r .len ≤ 16) × (length (r .numbers) ≡ 16)
+release-shape s = go (versionOf s .verdict) (versionOf s .version) (outcome s)
+  where
+    go : (x : Verdict) (v : Version) → Outcome s x v → (v .release .len ≤ 16) × (length (v .release .numbers) ≡ 16)
+    go Accepted v o = (o .few, o .size)
+    go (Refused r) v o = rw o (omega arith, refl)
