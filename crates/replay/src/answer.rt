@@ -5,13 +5,17 @@ use crate::decode::decode;
 use crate::decode::read_natural;
 use crate::say::put_hex;
 use crate::say::put_reading;
+use crate::say::put_refusal;
+use crate::say::put_word;
 use crate::say::put_written;
 use crate::words::word;
 use crate::words::word_count;
 use chars::place::part;
 use check::same;
+use compare::text::Compared;
 use decimal::put::put_byte;
 use decimal::put::put_bytes;
+use word::packed::Worded;
 ghost use Prim.Native.Nat.{_≤_};
 ghost use lib.ListN.{length};
 
@@ -47,6 +51,12 @@ fn answer_words(line: &[u8], texts: &mut [u8], out: &mut [u8]) -> usize {
     if count != 3 {
         return no_question(out);
     }
+    if same(kind, b"compare") {
+        let Decoded::End(second_end) = decode(word(line, 2), texts, end) else {
+            return no_question(out);
+        };
+        return of_compare(part(texts, 0, end), part(texts, end, second_end), out);
+    }
     match read_natural(word(line, 2)) {
         Natural::Is(n) => of_text_and_number(kind, part(texts, 0, end), n, out),
         Natural::Bad => no_question(out),
@@ -63,7 +73,31 @@ fn of_text(kind: &[u8], text: &[u8], out: &mut [u8]) -> usize {
     if same(kind, b"pattern") {
         return of_pattern(text, out);
     }
+    if same(kind, b"word") {
+        return of_word(text, out);
+    }
     no_question(out)
+}
+
+fn of_word(text: &[u8], out: &mut [u8]) -> usize {
+    match version::word(text) {
+        Worded::Word(w) => {
+            let digits = put_bytes(out, 0, b"word ");
+            put_word(out, digits, w.0)
+        }
+        Worded::NotSmall => put_bytes(out, 0, b"none"),
+        Worded::Refused(refusal) => put_refusal(out, 0, b"no ", refusal),
+    }
+}
+
+fn of_compare(first: &[u8], second: &[u8], out: &mut [u8]) -> usize {
+    match version::compare(first, second) {
+        Compared::Less => put_bytes(out, 0, b"less"),
+        Compared::Equal => put_bytes(out, 0, b"equal"),
+        Compared::Greater => put_bytes(out, 0, b"greater"),
+        Compared::First(refusal) => put_refusal(out, 0, b"first ", refusal),
+        Compared::Second(refusal) => put_refusal(out, 0, b"second ", refusal),
+    }
 }
 
 fn of_pattern(text: &[u8], out: &mut [u8]) -> usize {

@@ -135,6 +135,21 @@ pub(crate) fn put_hex(out: &mut [u8], at: usize, bytes: &[u8]) -> usize {
     next
 }
 
+// A word's sixteen digits: its eight bytes, the highest first.
+pub(crate) fn put_word(out: &mut [u8], at: usize, word: u64) -> usize {
+    let bytes = [
+        (word / 72057594037927936 % 256) as u8,
+        (word / 281474976710656 % 256) as u8,
+        (word / 1099511627776 % 256) as u8,
+        (word / 4294967296 % 256) as u8,
+        (word / 16777216 % 256) as u8,
+        (word / 65536 % 256) as u8,
+        (word / 256 % 256) as u8,
+        (word % 256) as u8,
+    ];
+    put_hex(out, at, &bytes)
+}
+
 fn put_buffer(out: &mut [u8], at: usize, buffer: &[u8]) -> usize {
     let bytes = put_byte(out, at, b' ');
     put_hex(out, bytes, buffer)

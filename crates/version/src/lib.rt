@@ -1,13 +1,17 @@
 // The version layer's promises: each entry point takes any bytes, and says all of its answer.
 use answers::Written;
+use compare::text::Compared;
 use reading::text::PatternReading;
 use reading::text::Reading;
 use reading::text::read_pattern;
 use reading::text::read_version;
+use word::packed::Worded;
 ghost use mathlib.Core.Path.{_≡_};
+ghost use Rattle.compare.specs.Compared.{compared};
 ghost use Rattle.normal.specs.Normal.{NormalPrinted};
 ghost use Rattle.reading.specs.Reading.{Read, VersionRead, patternOf, versionOf};
 ghost use Rattle.reading.specs.Segment.{segmentText};
+ghost use Rattle.word.specs.Worded.{wordAnswer};
 
 // The fields of a version, or its refusal.
 pub fn read(text: &[u8]) -> Reading
@@ -35,4 +39,18 @@ pub fn normal(text: &[u8], buffer: &mut [u8]) -> Written
     ensures { λ r. ⌜ NormalPrinted (now (text .entry)) (now (buffer .entry)) (now (buffer .exit)) r ⌝ }
 {
     normal::text::print_normal(text, buffer)
+}
+
+// How the first version compares with the second, or which text is refused: the first is judged first.
+pub fn compare(first: &[u8], second: &[u8]) -> Compared
+    ensures { λ r. ⌜ r ≡ compared (now (first .entry)) (now (second .entry)) ⌝ }
+{
+    compare::text::compare(first, second)
+}
+
+// The packed word of a small version; that a version has none is no refusal.
+pub fn word(text: &[u8]) -> Worded
+    ensures { λ r. ⌜ r ≡ wordAnswer (now (text .entry)) ⌝ }
+{
+    word::text::word(text)
 }

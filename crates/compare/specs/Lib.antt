@@ -1,0 +1,4 @@
+pub mod Key
+pub mod Versions
+pub mod Compared
+pub mod Prefix

@@ -1,0 +1,125 @@
+// The key of a version, and the order of keys.
+use chars::spelling::PreKind;
+use order::Order;
+use order::compare_number;
+use reading::fields::Part;
+use reading::fields::Pre;
+use reading::fields::Version;
+ghost use mathlib.Core.Path.{_≡_};
+ghost use Prim.Native.Nat.{compare};
+ghost use Rattle.order.specs.Compare.{option};
+ghost use Rattle.order.specs.Answer.{nameOf};
+ghost use Rattle.compare.specs.Key.{preKind, kindOf, preNumber, postOption, devNumber, keyOf};
+ghost use Rattle.compare.specs.Versions.{compareKey};
+
+// The largest number that a version can hold.
+const LARGEST: u64 = 18446744073709551615;
+
+// What decides between versions of one release, in this order.
+pub struct Key {
+    pub kind: u64,
+    pub pre: u64,
+    pub post: Part,
+    pub dev: u64,
+}
+
+fn pre_kind(kind: PreKind) -> u64
+    ensures { λ r. ⌜ r ≡ preKind kind ⌝ }
+{
+    match kind {
+        PreKind::Alpha => 2,
+        PreKind::Beta => 3,
+        PreKind::Rc => 4,
+    }
+}
+
+// 1 dev alone, 2 alpha, 3 beta, 4 rc, 5 none, 6 post without pre.
+pub fn kind_of(pre: Pre, post: Part, dev: Part) -> u64
+    ensures { λ r. ⌜ r ≡ kindOf pre post dev ⌝ }
+{
+    if let Pre::Is(kind, _) = pre {
+        return pre_kind(kind);
+    }
+    if let Part::Is(_) = post {
+        return 6;
+    }
+    if let Part::Is(_) = dev {
+        return 1;
+    }
+    5
+}
+
+fn pre_number(pre: Pre) -> u64
+    ensures { λ r. ⌜ r ≡ preNumber pre ⌝ }
+{
+    match pre {
+        Pre::Absent => 0,
+        Pre::Is(_, n) => n,
+    }
+}
+
+// An absent dev is 0 where nothing else is there, and otherwise stands above every dev.
+fn dev_number(pre: Pre, post: Part, dev: Part) -> u64
+    ensures { λ r. ⌜ r ≡ devNumber pre post dev ⌝ }
+{
+    if let Part::Is(n) = dev {
+        return n;
+    }
+    if let Pre::Is(_, _) = pre {
+        return LARGEST;
+    }
+    if let Part::Is(_) = post {
+        return LARGEST;
+    }
+    0
+}
+
+pub fn key_of(version: Version) -> Key
+    ensures { λ r. ⌜ r ≡ keyOf (version .pre) (version .post) (version .dev) ⌝ }
+{
+    let pre = version.pre;
+    let post = version.post;
+    let dev = version.dev;
+    Key {
+        kind: kind_of(pre, post, dev),
+        pre: pre_number(pre),
+        post,
+        dev: dev_number(pre, post, dev),
+    }
+}
+
+// A missing post is below any post.
+fn compare_posts(a: Part, b: Part) -> Order
+    ensures { λ r. ⌜ r ≡ nameOf (option compare (postOption a) (postOption b)) ⌝ }
+{
+    match a {
+        Part::Absent => match b {
+            Part::Absent => Order::Equal,
+            Part::Is(_) => Order::Less,
+        },
+        Part::Is(m) => match b {
+            Part::Absent => Order::Greater,
+            Part::Is(n) => compare_number(m, n),
+        },
+    }
+}
+
+pub(crate) fn compare_keys(a: Key, b: Key) -> Order
+    ensures { λ r. ⌜ r ≡ nameOf (compareKey a b) ⌝ }
+{
+    let by_kind = compare_number(a.kind, b.kind);
+    let Order::Equal = by_kind else {
+        return by_kind;
+    };
+    let by_pre = compare_number(a.pre, b.pre);
+    let Order::Equal = by_pre else {
+        return by_pre;
+    };
+    let one = a.post;
+    let other = b.post;
+    let by_post = compare_posts(one, other);
+    let Order::Equal = by_post else {
+        return by_post;
+    };
+    compare_number(a.dev, b.dev)
+}

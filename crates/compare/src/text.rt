@@ -1,0 +1,45 @@
+// Comparing the versions that two texts say.
+use crate::version::compare_versions;
+use answers::Refusal;
+use order::Order;
+use reading::text::Verdict;
+use reading::text::read_version;
+ghost use mathlib.Core.Path.{_≡_};
+ghost use Rattle.compare.specs.Compared.{answered, compared};
+
+// How the first version compares with the second, or which text was refused.
+pub enum Compared {
+    Less,
+    Equal,
+    Greater,
+    First(Refusal),
+    Second(Refusal),
+}
+
+fn answer(order: Order) -> Compared
+    ensures { λ r. ⌜ r ≡ answered order ⌝ }
+{
+    match order {
+        Order::Less => Compared::Less,
+        Order::Equal => Compared::Equal,
+        Order::Greater => Compared::Greater,
+    }
+}
+
+pub fn compare(first: &[u8], second: &[u8]) -> Compared
+    ensures { λ r. ⌜ r ≡ compared (now (first .entry)) (now (second .entry)) ⌝ }
+{
+    let one = read_version(first);
+    let verdict = one.verdict;
+    if let Verdict::Refused(refusal) = verdict {
+        return Compared::First(refusal);
+    }
+    let other = read_version(second);
+    let other_verdict = other.verdict;
+    if let Verdict::Refused(refusal) = other_verdict {
+        return Compared::Second(refusal);
+    }
+    let v = one.version;
+    let w = other.version;
+    answer(compare_versions(first, v, second, w))
+}

@@ -1,0 +1,3 @@
+pub mod Small
+pub mod Fitted
+pub mod Worded
