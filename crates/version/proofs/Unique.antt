@@ -15,9 +15,9 @@ one-reading p q = p .is ∙ sym (q .is)
 pub one-pattern : {spec r q : PatternReading} → Read spec r → Read spec q → r ≡ q
 one-pattern p q = p .is ∙ sym (q .is)
 
--- the bytes of a segment
-pub one-segment : {spec r q : List ℕ} → r ≡ spec → q ≡ spec → r ≡ q
-one-segment p q = p ∙ sym q
+-- what a plain equation fixes: the bytes of a segment, a comparison, a word
+pub one-answer : {A : Type 0} {spec r q : A} → r ≡ spec → q ≡ spec → r ≡ q
+one-answer p q = p ∙ sym q
 
 -- the answer and the buffer afterwards
 pub one-normal : {s old new new′ : List ℕ} {r q : Written} → NormalPrinted s old new r → NormalPrinted s old new′ q → (r ≡ q) × (new ≡ new′)
