@@ -12,9 +12,11 @@ use crate::words::word;
 use crate::words::word_count;
 use chars::place::part;
 use check::same;
+use clause::list::Checked;
 use compare::text::Compared;
 use decimal::put::put_byte;
 use decimal::put::put_bytes;
+use decimal::put::put_number;
 use word::packed::Worded;
 ghost use Prim.Native.Nat.{_≤_};
 ghost use lib.ListN.{length};
@@ -76,7 +78,20 @@ fn of_text(kind: &[u8], text: &[u8], out: &mut [u8]) -> usize {
     if same(kind, b"word") {
         return of_word(text, out);
     }
+    if same(kind, b"list") {
+        return of_list(text, out);
+    }
     no_question(out)
+}
+
+fn of_list(list: &[u8], out: &mut [u8]) -> usize {
+    match clause::list::check(list) {
+        Checked::Count(n) => {
+            let digits = put_bytes(out, 0, b"ok ");
+            put_number(out, digits, n as u64)
+        }
+        Checked::Refused(refusal) => put_refusal(out, 0, b"no ", refusal),
+    }
 }
 
 fn of_word(text: &[u8], out: &mut [u8]) -> usize {

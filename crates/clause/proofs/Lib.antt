@@ -1,0 +1,4 @@
+pub mod Operators
+pub mod Trims
+pub mod Clauses
+pub mod Lists

@@ -1,0 +1,4 @@
+pub mod Operator
+pub mod Trim
+pub mod Clause
+pub mod List

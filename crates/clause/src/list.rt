@@ -1,0 +1,77 @@
+// Lists of clauses, with commas between them.
+use crate::clause::Clause;
+use crate::clause::read_clause;
+use crate::trim::before_comma;
+use answers::Refusal;
+use chars::class;
+ghost use mathlib.Core.Path.{_≡_};
+ghost use Prim.Native.Nat.{_≤_};
+ghost use lib.ListN.{length};
+ghost use Rattle.clause.specs.Clause.{ClauseIs};
+ghost use Rattle.clause.specs.List.{Reached, commaAfter, clauseAt, clausesFrom, countFrom, checked};
+
+// How many clauses a list has, or why it is refused.
+pub enum Checked {
+    Count(usize),
+    Refused(Refusal),
+}
+
+// The place of the comma behind a clause, or the end of the list.
+pub(crate) fn comma_after(list: &[u8], start: usize) -> usize
+    requires { ⌜ start ≤ length (now list) ⌝ }
+    ensures { λ r. ⌜ Reached (now (list .entry)) start (commaAfter (now (list .entry)) start) r ⌝ }
+{
+    start + before_comma(&list[start..])
+}
+
+pub(crate) fn clause_at(list: &[u8], start: usize, end: usize) -> Clause
+    requires { ⌜ (start ≤ end) × (end ≤ length (now list)) × (length (now list) ≤ 1024) ⌝ }
+    ensures { λ r. ⌜ ClauseIs (clauseAt (now (list .entry)) start end) r ⌝ }
+{
+    read_clause(&list[start..end], start)
+}
+
+fn check_clauses(list: &[u8]) -> Checked
+    requires { ⌜ length (now list) ≤ 1024 ⌝ }
+    ensures { λ r. ⌜ r ≡ countFrom 0 (clausesFrom 16 (now (list .entry)) 0) ⌝ }
+{
+    let mut count = 0;
+    let mut start = 0;
+    loop {
+        if count == 16 {
+            return Checked::Refused(Refusal {
+                number: 17,
+                place: start,
+            });
+        }
+        let end = comma_after(list, start);
+        let clause = clause_at(list, start, end);
+        if clause.refusal != 0 {
+            return Checked::Refused(Refusal {
+                number: clause.refusal,
+                place: clause.place,
+            });
+        }
+        count += 1;
+        if end == list.len() {
+            return Checked::Count(count);
+        }
+        start = end + 1;
+    }
+}
+
+// How many clauses a list has. Blanks alone, or no byte, are a list of none.
+pub fn check(list: &[u8]) -> Checked
+    ensures { λ r. ⌜ r ≡ checked (now (list .entry)) ⌝ }
+{
+    if 1024 < list.len() {
+        return Checked::Refused(Refusal {
+            number: 8,
+            place: 1024,
+        });
+    }
+    if class::run(list, class::BLANK, class::BLANK) == list.len() {
+        return Checked::Count(0);
+    }
+    check_clauses(list)
+}
