@@ -18,11 +18,12 @@ again : tie.Need-loop-again Inv-loop μ-loop
 again c =
     let compared = c .before .before in
     let bytes = compared .before .before in
-    let turn = bytes .before in
-    let size = turn .before .before .smaller3 .ensures in
-    let agree = segments-agree _ _ _ _ _ _ _ _ size (turn .before .loop .inv .1) _ _ (bytes .segment-bytes .ensures .is) in
-    let here = agree (compared .before .segment-bytes2 .ensures .is) (turn .loop-test .taken) in
-    (search needs, here _ (compared .compare-segments .ensures) (c .enum-told .given .1))
+    let turn = bytes .before in (
+      search needs,
+      segments-agree _ _ _ _ _ _ _ _ (turn .before .before .smaller3 .ensures) (turn .before .loop .inv .1) _ _
+          (bytes .segment-bytes .ensures .is) (compared .before .segment-bytes2 .ensures .is) (turn .loop-test .taken)
+          _ (compared .compare-segments .ensures) (c .enum-told .given .1),
+    )
 
 pub compare-labels-spec : {M : Type 1} → statement M
 compare-labels-spec =

@@ -17,10 +17,11 @@ abbrev μ-loop : tie.MeasureT-loop
 again : tie.Need-loop-again Inv-loop μ-loop
 again c =
     let lowers = c .before .before .before in
-    let turn = lowers .before .before in
-    let size = turn .before .before .smaller .ensures in
-    let agree = bytes-agree _ _ _ _ size (turn .before .loop .inv .1) _ _ (lowers .lower .ensures .is) in
-    (search needs, agree (c .before .lower2 .ensures .is) (turn .loop-test .taken) (c .if1 .left))
+    let turn = lowers .before .before in (
+      search needs,
+      bytes-agree _ _ _ _ (turn .before .before .smaller .ensures) (turn .before .loop .inv .1) _ _ (lowers .lower .ensures .is)
+          (c .before .lower2 .ensures .is) (turn .loop-test .taken) (c .if1 .left),
+    )
 
 pub compare-lowered-spec : {M : Type 1} → statement M
 compare-lowered-spec =
