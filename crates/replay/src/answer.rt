@@ -3,6 +3,10 @@ use crate::decode::Decoded;
 use crate::decode::Natural;
 use crate::decode::decode;
 use crate::decode::read_natural;
+use crate::kinds::Kind;
+use crate::kinds::OfNumber;
+use crate::kinds::OfText;
+use crate::kinds::kind_of;
 use crate::say::put_hex;
 use crate::say::put_reading;
 use crate::say::put_refusal;
@@ -11,7 +15,6 @@ use crate::say::put_written;
 use crate::words::word;
 use crate::words::word_count;
 use chars::place::part;
-use check::same;
 use clause::list::Checked;
 use compare::text::Compared;
 use decimal::put::put_byte;
@@ -42,46 +45,32 @@ fn no_question(out: &mut [u8]) -> usize {
 }
 
 fn answer_words(line: &[u8], texts: &mut [u8], out: &mut [u8]) -> usize {
-    let count = word_count(line);
-    let kind = word(line, 0);
     let Decoded::End(end) = decode(word(line, 1), texts, 0) else {
         return no_question(out);
     };
-    if count == 2 {
-        return of_text(kind, part(texts, 0, end), out);
-    }
-    if count != 3 {
-        return no_question(out);
-    }
-    if same(kind, b"compare") {
-        let Decoded::End(second_end) = decode(word(line, 2), texts, end) else {
-            return no_question(out);
-        };
-        return of_compare(part(texts, 0, end), part(texts, end, second_end), out);
-    }
-    match read_natural(word(line, 2)) {
-        Natural::Is(n) => of_text_and_number(kind, part(texts, 0, end), n, out),
-        Natural::Bad => no_question(out),
+    let kind = kind_of(word(line, 0), word_count(line));
+    match kind {
+        Kind::Text(asked) => of_text(asked, part(texts, 0, end), out),
+        Kind::Number(asked) => of_number_word(asked, part(texts, 0, end), word(line, 2), out),
+        Kind::Texts => of_two_texts(word(line, 2), texts, end, out),
+        Kind::Unknown => no_question(out),
     }
 }
 
-fn of_text(kind: &[u8], text: &[u8], out: &mut [u8]) -> usize {
-    if same(kind, b"read") {
-        let read = version::read(text);
-        let verdict = read.verdict;
-        let fields = read.version;
-        return put_reading(out, text, b"ok ", verdict, fields);
+fn of_text(asked: OfText, text: &[u8], out: &mut [u8]) -> usize {
+    match asked {
+        OfText::Read => of_read(text, out),
+        OfText::Pattern => of_pattern(text, out),
+        OfText::Word => of_word(text, out),
+        OfText::List => of_list(text, out),
     }
-    if same(kind, b"pattern") {
-        return of_pattern(text, out);
-    }
-    if same(kind, b"word") {
-        return of_word(text, out);
-    }
-    if same(kind, b"list") {
-        return of_list(text, out);
-    }
-    no_question(out)
+}
+
+fn of_read(text: &[u8], out: &mut [u8]) -> usize {
+    let read = version::read(text);
+    let verdict = read.verdict;
+    let fields = read.version;
+    put_reading(out, text, b"ok ", verdict, fields)
 }
 
 fn of_list(list: &[u8], out: &mut [u8]) -> usize {
@@ -105,6 +94,14 @@ fn of_word(text: &[u8], out: &mut [u8]) -> usize {
     }
 }
 
+// The second text stands behind the first in the buffer.
+fn of_two_texts(word: &[u8], texts: &mut [u8], end: usize, out: &mut [u8]) -> usize {
+    let Decoded::End(second_end) = decode(word, texts, end) else {
+        return no_question(out);
+    };
+    of_compare(part(texts, 0, end), part(texts, end, second_end), out)
+}
+
 fn of_compare(first: &[u8], second: &[u8], out: &mut [u8]) -> usize {
     match version::compare(first, second) {
         Compared::Less => put_bytes(out, 0, b"less"),
@@ -125,18 +122,26 @@ fn of_pattern(text: &[u8], out: &mut [u8]) -> usize {
     put_reading(out, text, b"ok ", verdict, fields)
 }
 
-fn of_text_and_number(kind: &[u8], text: &[u8], n: usize, out: &mut [u8]) -> usize {
-    if same(kind, b"segment") {
-        return put_hex(out, 0, version::segment(text, n));
+fn of_number_word(asked: OfNumber, text: &[u8], word: &[u8], out: &mut [u8]) -> usize {
+    match read_natural(word) {
+        Natural::Is(n) => of_number(asked, text, n, out),
+        Natural::Bad => no_question(out),
     }
+}
+
+fn of_number(asked: OfNumber, text: &[u8], n: usize, out: &mut [u8]) -> usize {
+    match asked {
+        OfNumber::Segment => put_hex(out, 0, version::segment(text, n)),
+        OfNumber::Normal => in_a_buffer(text, n, out),
+    }
+}
+
+fn in_a_buffer(text: &[u8], n: usize, out: &mut [u8]) -> usize {
     if LARGEST_ROOM < n {
         return no_question(out);
     }
-    if same(kind, b"normal") {
-        let mut buffer = [165u8; 16384];
-        return of_normal(text, &mut buffer, n, out);
-    }
-    no_question(out)
+    let mut buffer = [165u8; 16384];
+    of_normal(text, &mut buffer, n, out)
 }
 
 // In the first n bytes of a buffer.

@@ -6,7 +6,7 @@ use chars::place::part;
 use libc::STDIN_FILENO;
 use libc::STDOUT_FILENO;
 ghost use mathlib.Core.Path.{_≡_};
-ghost use Prim.Native.Nat.{_≤_};
+ghost use Prim.Native.Nat.{_+_, _≤_, _<_};
 ghost use lib.ListN.{length};
 ghost use Rattle.replay.specs.Window.{Inside};
 
@@ -45,6 +45,23 @@ fn say(skipping: bool, line: &[u8], out: &mut [u8]) {
     io::write_all(STDOUT_FILENO, part(out, 0, n));
 }
 
+// A whole line of that length stands at the front of the window.
+fn answered(lines: &mut [u8], out: &mut [u8], w: Window, len: usize) -> Window
+    requires { ⌜ Inside w (length (now lines)) ⌝ }
+    requires { ⌜ w .start + len < w .end ⌝ }
+    ensures { λ r. ⌜ Inside r (length (now (lines .exit))) ⌝ }
+{
+    let start = w.start;
+    let end = w.end;
+    say(w.skipping, part(lines, start, start + len), out);
+    Window {
+        start: start + len + 1,
+        end,
+        skipping: false,
+        done: false,
+    }
+}
+
 // One step: a whole line is answered, a line that is too long is told and skipped, or more is read.
 pub(crate) fn turn(lines: &mut [u8], out: &mut [u8], w: Window) -> Window
     requires { ⌜ Inside w (length (now lines)) ⌝ }
@@ -54,13 +71,7 @@ pub(crate) fn turn(lines: &mut [u8], out: &mut [u8], w: Window) -> Window
     let end = w.end;
     let len = until(&lines[start..end], b'\n');
     if len < end - start {
-        say(w.skipping, &lines[start..start + len], out);
-        return Window {
-            start: start + len + 1,
-            end,
-            skipping: false,
-            done: false,
-        };
+        return answered(lines, out, w, len);
     }
     if LONGEST_LINE < len {
         say(w.skipping, b"", out);

@@ -2,6 +2,7 @@
 mod answer;
 mod decode;
 mod input;
+mod kinds;
 mod say;
 mod words;
 
