@@ -1,4 +1,12 @@
+pub mod Anchors
 pub mod Operators
 pub mod Trims
 pub mod Clauses
 pub mod Lists
+pub mod Turns
+pub mod Holding
+pub mod Verdicts
+pub mod Faults
+pub mod Rows
+pub mod Exactly
+pub mod Unique

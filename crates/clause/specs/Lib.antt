@@ -2,3 +2,5 @@ pub mod Operator
 pub mod Trim
 pub mod Clause
 pub mod List
+pub mod Accept
+pub mod Refusals

@@ -1,7 +1,7 @@
 -- Lists of clauses: refusals 8 and 17, and the first clause's that is refused.
 use mathlib.Core.Path.{_≡_}
 use mathlib.Core.List.{List, [], _∷_}
-use Prim.Native.Nat.{ℕ, zero, suc, _+_, _-_, _≤_}
+use Prim.Native.Nat.{ℕ, zero, suc, _+_, _-_, _≤_, max}
 use lib.Dec.{eqb, ltb}
 use lib.ListN.{length, take, drop}
 use Rattle.answers.specs.Written.{refusal}
@@ -12,7 +12,7 @@ use Rattle.clause.specs.declared.clause.Clause.{Clause}
 use Rattle.clause.specs.declared.list.Checked.{Checked}
 use Rattle.clause.specs.declared.list.Checked.the-variants.{Count, Refused}
 use Rattle.clause.specs.Trim.{beforeComma}
-use Rattle.clause.specs.Clause.{clauseOf}
+use Rattle.clause.specs.Clause.{refusedClause, clauseOf}
 
 -- what a list says: its clauses in their order, or a refusal
 pub data Listing : Type 0 where
@@ -26,10 +26,14 @@ commaAfter s start = start + beforeComma (drop start s)
 pub record Reached (s : List ℕ) (start spec r : ℕ) : Type 0 where
   pub is : r ≡ spec
   pub from : start ≤ r
-  pub within : r ≤ length s
+  pub within : r ≤ max start (length s)
 
 unfoldable pub clauseAt : List ℕ → ℕ → ℕ → Clause
 clauseAt s start end = clauseOf (take (end - start) (drop start s)) start
+
+-- the clause that starts there, of a list that is not too long
+unfoldable pub clauseIn : List ℕ → ℕ → Clause
+clauseIn s start = pick (ltb longest (length s)) (refusedClause 8 longest) (clauseAt s start (commaAfter s start))
 
 abbrev pub behind : Clause → Listing → Listing
 behind c (refused n p) = refused n p

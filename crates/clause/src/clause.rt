@@ -24,7 +24,7 @@ pub struct Clause {
     pub version: Version,
 }
 
-fn refused(number: u8, place: usize) -> Clause
+pub(crate) fn refused(number: u8, place: usize) -> Clause
     ensures { λ r. ⌜ ClauseIs (refusedClause number place) r ⌝ }
 {
     let release = Release::none();

@@ -1,6 +1,7 @@
 // Lists of clauses, with commas between them.
 use crate::clause::Clause;
 use crate::clause::read_clause;
+use crate::clause::refused;
 use crate::trim::before_comma;
 use answers::Refusal;
 use chars::class;
@@ -8,7 +9,7 @@ ghost use mathlib.Core.Path.{_≡_};
 ghost use Prim.Native.Nat.{_≤_};
 ghost use lib.ListN.{length};
 ghost use Rattle.clause.specs.Clause.{ClauseIs};
-ghost use Rattle.clause.specs.List.{Reached, commaAfter, clauseAt, clausesFrom, countFrom, checked};
+ghost use Rattle.clause.specs.List.{Reached, commaAfter, clauseAt, clauseIn, clausesFrom, countFrom, checked};
 
 // How many clauses a list has, or why it is refused.
 pub enum Checked {
@@ -16,11 +17,13 @@ pub enum Checked {
     Refused(Refusal),
 }
 
-// The place of the comma behind a clause, or the end of the list.
-pub(crate) fn comma_after(list: &[u8], start: usize) -> usize
-    requires { ⌜ start ≤ length (now list) ⌝ }
+// The place of the comma behind a clause, or the end of the list; behind that end, the place itself.
+pub fn comma_after(list: &[u8], start: usize) -> usize
     ensures { λ r. ⌜ Reached (now (list .entry)) start (commaAfter (now (list .entry)) start) r ⌝ }
 {
+    if list.len() < start {
+        return start;
+    }
     start + before_comma(&list[start..])
 }
 
@@ -29,6 +32,20 @@ pub(crate) fn clause_at(list: &[u8], start: usize, end: usize) -> Clause
     ensures { λ r. ⌜ ClauseIs (clauseAt (now (list .entry)) start end) r ⌝ }
 {
     read_clause(&list[start..end], start)
+}
+
+// The clause that starts at a place of a list, whatever stands before it. Behind the end it is an empty one.
+pub fn clause_in(list: &[u8], start: usize) -> Clause
+    ensures { λ r. ⌜ ClauseIs (clauseIn (now (list .entry)) start) r ⌝ }
+{
+    if 1024 < list.len() {
+        return refused(8, 1024);
+    }
+    if list.len() < start {
+        return refused(12, start);
+    }
+    let end = comma_after(list, start);
+    clause_at(list, start, end)
 }
 
 fn check_clauses(list: &[u8]) -> Checked

@@ -5,11 +5,13 @@ use mathlib.Core.Bool.{true, false}
 use mathlib.Core.List.{List, [], _∷_}
 use mathlib.Core.Option.{none, some}
 use Prim.Native.Nat.{ℕ}
+use lib.ListN.{replicate}
 use Rattle.answers.specs.Written.{refusal}
 use Rattle.chars.specs.Text.{ascii}
 use Rattle.chars.specs.declared.spelling.PreKind.the-variants.{Alpha, Beta, Rc}
 use Rattle.order.specs.Ordering.{lt, eq}
 use Rattle.order.specs.declared.Order.the-variants.{Less}
+use Rattle.reading.specs.declared.fields.Release.{Release}
 use Rattle.reading.specs.declared.fields.Pre.{Pre}
 use Rattle.reading.specs.declared.fields.Pre.the-variants.{Absent as NoPre, Is as IsPre}
 use Rattle.reading.specs.declared.fields.Part.{Part}
@@ -21,6 +23,7 @@ use Rattle.compare.specs.Key.{largest}
 use Rattle.compare.specs.Versions.{compareRelease, compareKey, comparePublic, compareLabel, compareValues}
 use Rattle.compare.specs.Compared.{judged}
 use Rattle.compare.specs.Prefix.{prefixMatches, nextPrefix}
+use Rattle.compare.specs.Next.{devZeroFields, next, noNext, nextEpoch, nextFields}
 
 abbrev version : List ℕ → Pre → Part → Part → List Label → Value
 version release pre post dev label = record { epoch = 0; release = release; pre = pre; post = post; dev = dev; label = label }
@@ -130,3 +133,19 @@ epoch-is-raised = refl
 pub no-next : nextPrefix largest (largest ∷ []) ≡ none
 unfolding nextPrefix
 no-next = refl
+
+-- the same as fields, of 4 with the largest number and of the largest number alone
+abbrev numbered : ℕ → ℕ → ℕ → Release
+numbered len first second = record { numbers = first ∷ second ∷ replicate 14 0; len = len }
+
+pub largest-dropped : nextFields 0 (numbered 2 4 largest) 2 ≡ next (devZeroFields 0 (numbered 1 5 largest))
+unfolding nextFields
+largest-dropped = refl
+
+pub epoch-raised : nextFields 0 (numbered 1 largest 0) 1 ≡ next (devZeroFields 1 (numbered 1 0 0))
+unfolding nextFields nextEpoch
+epoch-raised = refl
+
+pub no-epoch-left : nextFields largest (numbered 1 largest 0) 1 ≡ noNext
+unfolding nextFields nextEpoch
+no-epoch-left = refl

@@ -9,6 +9,7 @@ use native.Mathlib.Omega.{arith}
 use lib.Dec.{ltb, eqb}
 use lib.ListN.{length, getD, take, drop, set, replicate}
 use borrow.Author.Tests.{ltb-true}
+use Rattle.order.proofs.Elements.{all-take}
 use Rattle.chars.specs.Pick.{pick}
 use Rattle.chars.specs.Text.{ascii}
 use Rattle.chars.specs.Case.{startsWith}
@@ -44,12 +45,6 @@ use Rattle.reading.specs.Reading.{
 use Rattle.reading.specs.Value.{valueOf}
 use Rattle.compare.specs.Key.{largest}
 use Rattle.compare.specs.Prefix.{Fit, Held}
-
-fit-take : (k : ℕ) (l : List ℕ) → Fit l → Fit (take k l)
-fit-take zero [] a = tt
-fit-take zero (x ∷ l) a = tt
-fit-take (suc k) [] a = tt
-fit-take (suc k) (x ∷ l) a = (a .0, fit-take k l (a .1))
 
 fit-set : (l : List ℕ) (i n : ℕ) → n ≤ largest → Fit l → Fit (set l i n)
 fit-set [] zero n h a = tt
@@ -176,7 +171,7 @@ unfolding valueOf
 held-pattern wildcards s t =
     let f = pattern-fit wildcards s in
     let v = patternAs wildcards s .version in
-    record { epoch = f .epoch; release = fit-take (v .release .len) (v .release .numbers) (f .numbers) }
+    record { epoch = f .epoch; release = all-take (λ n. n ≤ largest) (v .release .len) (v .release .numbers) (f .numbers) }
 
 pub held-version : (s t : List ℕ) → Held (valueOf t (versionOf s .version))
 unfolding versionOf

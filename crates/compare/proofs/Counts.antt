@@ -1,4 +1,4 @@
--- The ways of `compare_release`: the part of a release's array that counts, at most 16 numbers whatever its length says.
+-- The ways of `compare_release` and `matches_prefix`: the part of a release's array that counts, at most 16 numbers whatever its length says.
 -- Assumes nothing.
 use mathlib.Core.Path.{_≡_, sym, _∙_, ap}
 use mathlib.Core.List.{List, [], _∷_, map}
@@ -33,7 +33,7 @@ module _ (l : List ℕ) (n m : ℕ) (size : length (map (λ k. k) l) ≡ 16) (e 
   pub count-is : m ≡ length (take m l)
   count-is = sym (length-take-le m l count-within)
 
-  counted : take m l ≡ take n l
+  pub counted : take m l ≡ take n l
   counted = rw (e, ← long) (take-min n l)
 
 -- the epochs are equal, by q, and r is how the parts compare

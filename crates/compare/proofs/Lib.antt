@@ -5,7 +5,9 @@ pub mod Matches
 pub mod Bounds
 pub mod Steps
 pub mod Counts
+pub mod Beginnings
 pub mod Places
 pub mod Bytes
 pub mod Labels
 pub mod Texts
+pub mod Nexts

@@ -6,6 +6,7 @@ use mathlib.Core.List.{List, [], _∷_}
 use mathlib.Core.Option.{Option, none, some}
 use Prim.Native.Nat.{ℕ, suc, compare}
 use lib.Dec.{eqb, leb·zero}
+use lib.ListN.{take}
 use Rattle.chars.specs.Pick.{pick}
 use Rattle.chars.specs.declared.spelling.PreKind.the-variants.{Alpha, Beta, Rc}
 use Rattle.order.specs.Ordering.{Ordering, isLe, isGt, also}
@@ -20,6 +21,7 @@ use Rattle.compare.specs.Key.{largest, kindOf, preNumber, postOption, de
 use Rattle.compare.specs.Versions.{compareRelease, compareKey, key, comparePublic}
 use Rattle.compare.specs.Prefix.{
   prefixMatches,
+  cutTo,
   raised,
   nextRelease,
   carried,
@@ -31,7 +33,7 @@ use Rattle.compare.specs.Prefix.{
   endsAbove,
   Held,
 }
-use Rattle.compare.proofs.Prefixes.{above, between, next-above}
+use Rattle.compare.proofs.Prefixes.{above, between, next-above, beginning-least}
 
 -- the epoch in front of the release: how versions compare up to their keys
 abbrev numbers : Value → List ℕ
@@ -95,3 +97,7 @@ prefix-law v w h =
 
 pub prefix-proper : (v : Value) → endsAbove (prefixEnd v) (prefixStart v) ≡ true
 prefix-proper v = end-above v (prefixStart v) ∙ next-above (numbers v)
+
+-- what a version's first numbers match begins at or below the version
+pub prefix-starts : (count : ℕ) (v : Value) → isLe (comparePublic (prefixStart (cutTo count v)) v) ≡ true
+prefix-starts count v = dev-zero-least (v .epoch) (take count (v .release)) v ∙ beginning-least (suc count) (numbers v)

@@ -4,9 +4,10 @@ use mathlib.Core.Path.{_≡_, refl, _∙_, ap}
 use mathlib.Core.Bool.{Bool, true, false, not, _&&_}
 use mathlib.Core.List.{List, [], _∷_, tail}
 use mathlib.Core.Option.{Option, none, some}
-use Prim.Native.Nat.{ℕ, suc, _≤_, _<_, compare}
+use Prim.Native.Nat.{ℕ, zero, suc, _≤_, _<_, compare}
 use native.Mathlib.Omega.{arith}
 use lib.Dec.{eqb, leb·zero}
+use lib.ListN.{take}
 use borrow.Author.Tests.{eqb-true}
 use Rattle.chars.specs.Pick.{pick}
 use Rattle.order.specs.Ordering.{Ordering, lt, eq, gt, isLe, isGt, also}
@@ -89,3 +90,9 @@ between (x ∷ p) l a = rw (step x l p) (go (compare x y) refl (between p (tail 
 pub next-above : (p : List ℕ) → above (nextRelease p) p ≡ true
 next-above [] = refl
 next-above (x ∷ p) = kept x (x ∷ p) (nextRelease p) (compare-is eq x x refl) ∙ next-above p
+
+-- the first numbers of a list are at most the list
+pub beginning-least : (count : ℕ) (l : List ℕ) → isLe (padded compare 0 (take count l) l) ≡ true
+beginning-least zero l = none-least l
+beginning-least (suc count) [] = refl
+beginning-least (suc count) (x ∷ l) = rw (compare-is eq x x refl) (beginning-least count l)

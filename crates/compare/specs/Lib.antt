@@ -2,3 +2,4 @@ pub mod Key
 pub mod Versions
 pub mod Compared
 pub mod Prefix
+pub mod Next

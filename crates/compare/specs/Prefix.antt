@@ -2,8 +2,9 @@
 use mathlib.Core.Bool.{Bool, true, _&&_}
 use mathlib.Core.List.{List, [], _∷_, tail}
 use mathlib.Core.Option.{Option, none, some}
-use Prim.Native.Nat.{ℕ, suc, _≤_}
+use Prim.Native.Nat.{ℕ, suc, _-_, _≤_}
 use lib.Dec.{eqb}
+use lib.ListN.{length, take}
 use Rattle.chars.specs.Pick.{pick}
 use Rattle.order.specs.All.{All}
 use Rattle.order.specs.Ordering.{isGt}
@@ -22,6 +23,20 @@ begins (x ∷ prefix) numbers = eqb x (headOr 0 numbers) && begins prefix (tail 
 -- equal epochs, and the release begins with the prefix's
 unfoldable pub prefixMatches : Value → Value → Bool
 prefixMatches v w = eqb (v .epoch) (w .epoch) && begins (v .release) (w .release)
+
+-- the version with the first so many of its release numbers, and with its release less the last number
+abbrev pub cutTo : ℕ → Value → Value
+cutTo count v = record {
+  epoch = v .epoch;
+  release = take count (v .release);
+  pre = v .pre;
+  post = v .post;
+  dev = v .dev;
+  label = v .label;
+}
+
+abbrev pub shorter : Value → Value
+shorter v = cutTo (length (v .release) - 1) v
 
 -- the number x, and what the numbers behind it have become; with all of them dropped, it is the last
 abbrev pub raised : ℕ → Option (List ℕ) → Option (List ℕ)

@@ -13,7 +13,7 @@ ghost use Rattle.compare.specs.Key.{preKind, kindOf, preNumber, postOpti
 ghost use Rattle.compare.specs.Versions.{compareKey};
 
 // The largest number that a version can hold.
-const LARGEST: u64 = 18446744073709551615;
+pub(crate) const LARGEST: u64 = 18446744073709551615;
 
 // What decides between versions of one release, in this order.
 pub struct Key {

@@ -68,7 +68,7 @@ number-put {n = n} p h = record { wrote = p; near = omega (arith, p .moved, twen
 -- what a printer owes: where there is no room, and where there is
 -- its writer was run on an empty buffer first, and said where it would be
 module _ (most : ℕ) (text none none′ : List ℕ) (need : ℕ) (dry : Put most none 0 text none′ need) (few : most < farthest) where
-  whole : need ≡ length text
+  pub whole : need ≡ length text
   whole = omega (arith, dry .wrote .moved, dry .near)
 
   pub short : (buf : List ℕ) → length buf < need → Printed text buf buf (Refused (refusal 11 need))

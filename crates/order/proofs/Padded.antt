@@ -57,13 +57,13 @@ module _ {A : Type 0} {cmp : Comparison A} (L : Laws cmp) (d : A) where
   padded-laws = record { turn = turn; tri = tri }
 
 -- what a list has from place i on
-head-of-drop : {A : Type 0} (d : A) (l : List A) (i : ℕ) → headOr d (drop i l) ≡ getD l i d
+pub head-of-drop : {A : Type 0} (d : A) (l : List A) (i : ℕ) → headOr d (drop i l) ≡ getD l i d
 head-of-drop d [] zero = refl
 head-of-drop d [] (suc i) = refl
 head-of-drop d (x ∷ l) zero = refl
 head-of-drop d (x ∷ l) (suc i) = head-of-drop d l i
 
-tail-of-drop : {A : Type 0} (l : List A) (i : ℕ) → tail (drop i l) ≡ drop (suc i) l
+pub tail-of-drop : {A : Type 0} (l : List A) (i : ℕ) → tail (drop i l) ≡ drop (suc i) l
 tail-of-drop [] zero = refl
 tail-of-drop [] (suc i) = refl
 tail-of-drop (x ∷ l) zero = refl

@@ -26,7 +26,7 @@ pub fn compare_number(a: u64, b: u64) -> Order
 }
 
 // The number at a place, and 0 past the end.
-fn number_at(s: &[u64], at: usize) -> u64
+pub fn number_at(s: &[u64], at: usize) -> u64
     ensures { λ r. ⌜ r ≡ getD (now (s .entry)) at 0 ⌝ }
 {
     if at < s.len() { s[at] } else { 0 }

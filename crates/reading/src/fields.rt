@@ -1,7 +1,9 @@
 // The fields of a version, by value.
 use chars::spelling::PreKind;
+ghost use mathlib.Core.Path.{_≡_};
 ghost use Prim.Native.Nat.{_<_};
 ghost use Rattle.reading.specs.Fields.{Numbers, Spans, noRelease, onlyNumber, pushedNumber, noLocal, pushedSpan};
+ghost use Rattle.reading.specs.Reading.{noVersion};
 
 // The first len numbers count; the others are 0.
 pub struct Release {
@@ -50,7 +52,7 @@ impl Release {
         }
     }
 
-    pub(crate) fn only(n: u64) -> Release
+    pub fn only(n: u64) -> Release
         ensures { λ r. ⌜ Numbers (onlyNumber n) r ⌝ }
     {
         let mut numbers = [0u64; 16];
@@ -88,5 +90,23 @@ impl Local {
         self.spans[i] = span;
         self.len = i + 1;
         self
+    }
+}
+
+impl Version {
+    // The blank version, which stands where there is none.
+    pub fn none() -> Version
+        ensures { λ r. ⌜ r ≡ noVersion ⌝ }
+    {
+        let release = Release::none();
+        let local = Local::none();
+        Version {
+            epoch: 0,
+            release,
+            pre: Pre::Absent,
+            post: Part::Absent,
+            dev: Part::Absent,
+            local,
+        }
     }
 }

@@ -2,7 +2,6 @@
 use crate::fields::Local;
 use crate::fields::Part;
 use crate::fields::Pre;
-use crate::fields::Release;
 use crate::fields::Version;
 use crate::head::Head;
 use crate::head::read_head;
@@ -37,20 +36,10 @@ fn refused(number: u8, place: usize) -> PatternReading
     requires { ⌜ place ≤ 1024 ⌝ }
     ensures { λ r. ⌜ Read (refusedWith number place) r ⌝ }
 {
-    let release = Release::none();
-    let local = Local::none();
-    let version = Version {
-        epoch: 0,
-        release,
-        pre: Pre::Absent,
-        post: Part::Absent,
-        dev: Part::Absent,
-        local,
-    };
     PatternReading {
         verdict: Verdict::Refused(Refusal { number, place }),
         wildcard: false,
-        version,
+        version: Version::none(),
     }
 }
 

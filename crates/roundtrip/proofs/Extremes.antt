@@ -40,7 +40,7 @@ pub record Grown (s : List ℕ) (from to : ℕ) : Type 0 where
   pub grown : length (normalText s) ≡ to
 
 -- where this unfolds, all that reading and normal text compute with does
-computed : List ℕ → Verdict × List ℕ
+unfoldable pub computed : List ℕ → Verdict × List ℕ
 unfolding versionOf patternAs headOf headAt leadEnd releaseFrom afterRelease suffixAt preAt postAt spelledPost devAt afterSuffix
     labelAt segmentsFrom wordEnd separatorEnd numberAt markedNumber numberOrZero preSpelling shortPreSpelling postSpelling devSpelling
     startsWith leadingOf numberOf valueFrom digitOf front between classOf lowerOf normalText versionText frontText backText epochText

@@ -1,7 +1,7 @@
 -- What any text says, if it is accepted: a value that can be read, and whose normal text has at most nine bytes more than the text.
 -- Assumes nothing.
 use mathlib.Core.Path.{_≡_, refl, subst}
-use mathlib.Core.Bool.{false}
+use mathlib.Core.Bool.{Bool, true, false}
 use mathlib.Core.List.{List, map}
 use Prim.Native.Nat.{ℕ, _+_, _≤_}
 use native.Mathlib.Omega.{arith}
@@ -13,7 +13,9 @@ use Rattle.chars.specs.Text.{ascii}
 use Rattle.chars.specs.Class.{blank, between, front}
 use Rattle.chars.specs.Case.{startsWith}
 use Rattle.reading.specs.declared.fields.Pre.{Pre}
+use Rattle.reading.specs.declared.fields.Pre.the-variants.{Absent as NoPre}
 use Rattle.reading.specs.declared.fields.Part.{Part}
+use Rattle.reading.specs.declared.fields.Part.the-variants.{Absent as NoPart}
 use Rattle.reading.specs.declared.fields.Local.{Local}
 use Rattle.reading.specs.declared.fields.Version.{Version}
 use Rattle.reading.specs.declared.head.Head.{Head}
@@ -23,6 +25,7 @@ use Rattle.reading.specs.declared.suffix.Suffix.the-variants.{Read as SuffixIs,
 use Rattle.reading.specs.declared.text.PatternReading.{PatternReading}
 use Rattle.reading.specs.declared.text.Verdict.{Verdict}
 use Rattle.reading.specs.declared.text.Verdict.the-variants.{Accepted, Refused}
+use Rattle.reading.specs.Fields.{noLocal}
 use Rattle.reading.specs.Head.{headOf}
 use Rattle.reading.specs.Suffix.{suffixAt}
 use Rattle.reading.specs.Label.{labelAt}
@@ -37,6 +40,7 @@ use Rattle.reading.specs.Reading.{
   afterRelease,
   afterHead,
   patternAs,
+  patternOf,
   versionOf,
 }
 use Rattle.reading.specs.Segment.{spanned}
@@ -48,7 +52,7 @@ use Rattle.roundtrip.proofs.Lengths.{parts-length, joined-length}
 use Rattle.roundtrip.proofs.ReadPlaces.{by-pick}
 use Rattle.roundtrip.proofs.ReadHead.{HeadRead, HeadSound, head-sound}
 use Rattle.roundtrip.proofs.ReadSuffix.{SuffixRead, SuffixSound, suffix-sound}
-use Rattle.roundtrip.proofs.ReadLabel.{SegmentsRead, label-sound, segments-fit, label-long}
+use Rattle.roundtrip.proofs.ReadLabel.{SegmentsRead, none-read, label-sound, segments-fit, label-long}
 
 -- the fields v of an accepted text
 pub record Said (s : List ℕ) (v : Version) : Type 0 where
@@ -136,29 +140,54 @@ module _ (s : List ℕ) (short : length s ≤ 1024) (h : Head) (head : HeadRead 
       go (SuffixIs pre post dev next) r = label-read pre post dev next r
       go (TooBig d) r = refl
 
-  no-star-read : Sound s (pick (startsWith (ascii ".*") (drop (h .at) s)) (starred false s h) (afterRelease s h))
+  -- a wildcard ends the text, and what stands before it has no suffix and no label
+  star-read : (wildcards : Bool) → Sound s (starred wildcards s h)
   unfolding starred
-  no-star-read = by-pick (Sound s) (startsWith (ascii ".*") (drop (h .at) s)) (λ e. refl) (λ e. suffix-read)
+  star-read wildcards =
+      by-pick (Sound s) wildcards
+      (λ e. by-pick (Sound s) (ltb (h .at + 2) (length s)) (λ f. refl) (λ f. said s h NoPre NoPart NoPart (h .at) noLocal (h .at) head bare unlabelled short))
+      (λ e. refl)
+    where
+      bare : SuffixRead s (h .at) NoPre NoPart NoPart (h .at)
+      bare = record { pre-fits = tt; post-fits = tt; dev-fits = tt; grows = omega arith; within = head .within }
 
-head-read : (s : List ℕ) → length s ≤ 1024 → (h : Head) → HeadSound s h → Sound s (afterHead false s h)
-head-read s short h sound = by-pick (Sound s) (eqb (h .refusal) 0) (λ e. no-star-read s short h (sound (eqb-true _ _ e))) (λ e. refl)
+      unlabelled : SegmentsRead s (h .at) noLocal (h .at)
+      unlabelled = none-read s (h .at) (head .within)
 
-reading-sound : (s : List ℕ) → Sound s (patternAs false s)
+  release-read : (wildcards : Bool) → Sound s (pick (startsWith (ascii ".*") (drop (h .at) s)) (starred wildcards s h) (afterRelease s h))
+  release-read wildcards =
+      by-pick (Sound s) (startsWith (ascii ".*") (drop (h .at) s)) (λ e. star-read wildcards) (λ e. suffix-read)
+
+head-read : (wildcards : Bool) (s : List ℕ) → length s ≤ 1024 → (h : Head) → HeadSound s h → Sound s (afterHead wildcards s h)
+head-read wildcards s short h sound =
+    by-pick (Sound s) (eqb (h .refusal) 0) (λ e. release-read s short h (sound (eqb-true _ _ e)) wildcards) (λ e. refl)
+
+reading-sound : (wildcards : Bool) (s : List ℕ) → Sound s (patternAs wildcards s)
 unfolding patternAs
-reading-sound s =
-    by-pick (Sound s) (ltb longest (length s)) (λ e. refl) (λ e. head-read s (ltb-false _ _ e) (headOf s) (head-sound s))
+reading-sound wildcards s =
+    by-pick (Sound s) (ltb longest (length s)) (λ e. refl) (λ e. head-read wildcards s (ltb-false _ _ e) (headOf s) (head-sound s))
+
+-- as a pattern, and as a version
+pub pattern-said : (s : List ℕ) → patternOf s .verdict ≡ Accepted → Said s (patternOf s .version)
+pattern-said s e = subst (λ (x : Verdict). Outcome s x (patternOf s .version)) e (reading-sound true s)
 
 outcome : (s : List ℕ) → Outcome s (versionOf s .verdict) (versionOf s .version)
 unfolding versionOf
-outcome s = reading-sound s
+outcome s = reading-sound false s
 
 pub accepted-said : (s : List ℕ) → versionOf s .verdict ≡ Accepted → Said s (versionOf s .version)
 accepted-said s e = subst (λ (x : Verdict). Outcome s x (versionOf s .version)) e (outcome s)
 
 -- also of a refused text, which has no fields
-pub release-shape : (s : List ℕ) → let r = versionOf s .version .release in (r .len ≤ 16) × (length (r .numbers) ≡ 16)
-release-shape s = go (versionOf s .verdict) (versionOf s .version) (outcome s)
-  where
-    go : (x : Verdict) (v : Version) → Outcome s x v → (v .release .len ≤ 16) × (length (v .release .numbers) ≡ 16)
-    go Accepted v o = (o .few, o .size)
-    go (Refused r) v o = rw o (omega arith, refl)
+abbrev pub Shaped : Version → Type 0
+Shaped v = (v .release .len ≤ 16) × (length (v .release .numbers) ≡ 16)
+
+outcome-shape : (s : List ℕ) (x : Verdict) (v : Version) → Outcome s x v → Shaped v
+outcome-shape s Accepted v o = (o .few, o .size)
+outcome-shape s (Refused r) v o = rw o (omega arith, refl)
+
+pub pattern-shape : (s : List ℕ) → Shaped (patternOf s .version)
+pattern-shape s = outcome-shape s (patternOf s .verdict) (patternOf s .version) (reading-sound true s)
+
+pub release-shape : (s : List ℕ) → Shaped (versionOf s .version)
+release-shape s = outcome-shape s (versionOf s .verdict) (versionOf s .version) (outcome s)

@@ -74,7 +74,7 @@ pub record SegmentsRead (s : List ℕ) (from : ℕ) (local : Local) (at : ℕ) :
 abbrev pub LabelSound : List ℕ → ℕ → LabelStep → Type 0
 LabelSound s from l = l .refusal ≡ 0 → SegmentsRead s from (l .local) (l .at)
 
-none-read : (s : List ℕ) (at : ℕ) → at ≤ length s → SegmentsRead s at noLocal at
+pub none-read : (s : List ℕ) (at : ℕ) → at ≤ length s → SegmentsRead s at noLocal at
 none-read s at h = record { few = omega arith; size = refl; segments = tt; long = omega arith; within = h }
 
 next-segment : (s : List ℕ) (from : ℕ) (local : Local) (at : ℕ) → SegmentsRead s (from + 1) local at → local .len < 16 →

@@ -1,6 +1,6 @@
 -- `clause::list::comma_after` meets its contract.
 -- Assumes nothing.
-use Rattle.clause.proofs.Lists.{comma-is}
+use Rattle.clause.proofs.Lists.{comma-is, comma-outside}
 use borrow.Author.Needs.{needs}
 use Rattle.clause.proofs.list.comma_after.Statement.{statement}
 use Rattle.clause.proofs.list.comma_after.Tie as tie
@@ -9,6 +9,7 @@ pub comma-after-spec : {M : Type 1} → statement M
 comma-after-spec =
     tie.close
     (tie.spec
+    (λ c. record { is = search comma-outside; from = search needs; within = search needs })
     (λ c. search needs)
     (λ c. search needs)
     (λ c. search needs)

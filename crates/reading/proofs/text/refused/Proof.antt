@@ -1,5 +1,6 @@
 -- `reading::text::refused` meets its contract.
 -- Assumes nothing.
+use native.Mathlib.Omega.{arith}
 use borrow.Author.Needs.{needs}
 use Rattle.reading.proofs.text.refused.Statement.{statement}
 use Rattle.reading.proofs.text.refused.Tie as tie
@@ -9,5 +10,11 @@ refused-spec =
     tie.close
     (tie.spec
     (λ c κs. search needs)
-    (λ c κs. search needs)
-    (λ c. record { is = rw (c .none2 .ensures .is, c .before .none .ensures .is); few = search needs; short = search needs; near = search needs }))
+    (λ c.
+    let e = c .none .ensures in
+    record {
+      is = cc;
+      few = rw e (omega arith);
+      short = rw e (omega arith);
+      near = search needs;
+    }))

@@ -1,0 +1,19 @@
+-- `clause::accepts` meets its contract: one law for each way out.
+-- Assumes nothing.
+use Rattle.clause.proofs.Verdicts.{list-refused, version-refused, both-accepted}
+use borrow.Author.Needs.{needs}
+use Rattle.clause.proofs.accepts.Statement.{statement}
+use Rattle.clause.proofs.accepts.Tie as tie
+
+pub accepts-spec : {M : Type 1} → statement M
+accepts-spec =
+    tie.close
+    (tie.spec
+    (λ c κs. search needs)
+    (λ c κs. search needs)
+    (λ c. search needs)
+    (λ c. search list-refused)
+    (λ c. search needs)
+    (λ c. search version-refused)
+    (λ c. search needs)
+    (λ c. search both-accepted))

@@ -1,0 +1,15 @@
+-- `clause::holds::compatible` meets its contract: one law for each way out.
+-- Assumes nothing.
+use Rattle.clause.proofs.Holding.{first-fails, second-decides}
+use borrow.Author.Needs.{needs}
+use Rattle.clause.proofs.holds.compatible.Statement.{statement}
+use Rattle.clause.proofs.holds.compatible.Tie as tie
+
+pub compatible-spec : {M : Type 1} → statement M
+compatible-spec =
+    tie.close
+    (tie.spec
+    (λ c κs. search needs)
+    (λ c κs. search needs)
+    (λ c. search second-decides)
+    (λ c. search first-fails))

@@ -1,0 +1,18 @@
+-- `clause::list::clause_in` meets its contract: one law for each way out.
+-- Assumes nothing.
+use Rattle.clause.proofs.Lists.{clause-of-long, clause-outside, clause-inside}
+use borrow.Author.Needs.{needs}
+use Rattle.clause.proofs.list.clause_in.Statement.{statement}
+use Rattle.clause.proofs.list.clause_in.Tie as tie
+
+pub clause-in-spec : {M : Type 1} → statement M
+clause-in-spec =
+    tie.close
+    (tie.spec
+    (λ c κs. search needs)
+    (λ c. record { is = search clause-of-long; few = search needs })
+    (λ c κs. search needs)
+    (λ c. record { is = search clause-outside; few = search needs })
+    (λ c κs. search needs)
+    (λ c κs. search needs)
+    (λ c. record { is = search clause-inside; few = search needs }))

@@ -1,0 +1,89 @@
+// What a list of clauses accepts.
+use crate::clause::Clause;
+use crate::holds::accepts_clause;
+use crate::list::clause_at;
+use crate::list::comma_after;
+use answers::Refusal;
+use chars::class;
+use reading::fields::Version;
+ghost use mathlib.Core.Path.{_≡_};
+ghost use mathlib.Core.Bool.{_&&_};
+ghost use mathlib.Core.List.{[]};
+ghost use Prim.Native.Nat.{_≤_};
+ghost use lib.ListN.{length};
+ghost use Rattle.reading.specs.declared.text.Verdict.the-variants.{Accepted};
+ghost use Rattle.reading.specs.Value.{valueOf};
+ghost use Rattle.clause.specs.List.{clausesFrom, listOf};
+ghost use Rattle.clause.specs.Accept.{clauseAccepts, yesOrNo, judgedBy};
+
+// What a list says of a version, or which of the two is refused.
+pub enum Accepts {
+    Yes,
+    No,
+    List(Refusal),
+    Version(Refusal),
+}
+
+fn yes_or_no(holds: bool) -> Accepts
+    ensures { λ r. ⌜ r ≡ yesOrNo holds ⌝ }
+{
+    if holds { Accepts::Yes } else { Accepts::No }
+}
+
+// Behind a clause that does not hold none is evaluated.
+fn all_accept(before: bool, clause: Clause, version: Version) -> bool
+    ensures { λ r. ⌜ r ≡ before && clauseAccepts clause (valueOf [] version) ⌝ }
+{
+    if before {
+        return accepts_clause(clause, version);
+    }
+    false
+}
+
+// Each clause is read, also behind one that does not hold: a list that is refused further on is refused.
+fn accept_clauses(list: &[u8], version: Version) -> Accepts
+    requires { ⌜ length (now list) ≤ 1024 ⌝ }
+    ensures { λ r. ⌜ r ≡ judgedBy (clausesFrom 16 (now (list .entry)) 0) Accepted (valueOf [] version) ⌝ }
+{
+    let mut count = 0usize;
+    let mut start = 0;
+    let mut so_far = true;
+    loop {
+        if count == 16 {
+            return Accepts::List(Refusal {
+                number: 17,
+                place: start,
+            });
+        }
+        let end = comma_after(list, start);
+        let clause = clause_at(list, start, end);
+        if clause.refusal != 0 {
+            return Accepts::List(Refusal {
+                number: clause.refusal,
+                place: clause.place,
+            });
+        }
+        so_far = all_accept(so_far, clause, version);
+        count += 1;
+        if end == list.len() {
+            return yes_or_no(so_far);
+        }
+        start = end + 1;
+    }
+}
+
+// What a list says of a version that was read.
+pub(crate) fn accept_version(list: &[u8], version: Version) -> Accepts
+    ensures { λ r. ⌜ r ≡ judgedBy (listOf (now (list .entry))) Accepted (valueOf [] version) ⌝ }
+{
+    if 1024 < list.len() {
+        return Accepts::List(Refusal {
+            number: 8,
+            place: 1024,
+        });
+    }
+    if class::run(list, class::BLANK, class::BLANK) == list.len() {
+        return Accepts::Yes;
+    }
+    accept_clauses(list, version)
+}

@@ -1,0 +1,79 @@
+// What one clause accepts. The labels of versions are not looked at.
+use crate::clause::Clause;
+use crate::operator::Operator;
+use compare::prefix::matches;
+use compare::prefix::matches_shorter;
+use compare::version::compare_public;
+use order::Order;
+use reading::fields::Version;
+ghost use mathlib.Core.Path.{_≡_};
+ghost use mathlib.Core.Bool.{_&&_};
+ghost use mathlib.Core.List.{[]};
+ghost use Rattle.order.specs.Ordering.{isLe, isEq, isGe};
+ghost use Rattle.reading.specs.Value.{valueOf};
+ghost use Rattle.compare.specs.Versions.{comparePublic};
+ghost use Rattle.compare.specs.Prefix.{prefixMatches, shorter};
+ghost use Rattle.clause.specs.Accept.{equals, clauseAccepts};
+
+fn at_most(w: Version, v: Version) -> bool
+    ensures { λ r. ⌜ r ≡ isLe (comparePublic (valueOf [] w) (valueOf [] v)) ⌝ }
+{
+    let order = compare_public(w, v);
+    match order {
+        Order::Less => true,
+        Order::Equal => true,
+        Order::Greater => false,
+    }
+}
+
+fn at_least(w: Version, v: Version) -> bool
+    ensures { λ r. ⌜ r ≡ isGe (comparePublic (valueOf [] w) (valueOf [] v)) ⌝ }
+{
+    let order = compare_public(w, v);
+    match order {
+        Order::Less => false,
+        Order::Equal => true,
+        Order::Greater => true,
+    }
+}
+
+// Equal in order, or with a wildcard a match.
+fn equals(wildcard: bool, v: Version, w: Version) -> bool
+    ensures { λ r. ⌜ r ≡ equals wildcard (valueOf [] v) (valueOf [] w) ⌝ }
+{
+    if wildcard {
+        return matches(v, w);
+    }
+    let order = compare_public(w, v);
+    match order {
+        Order::Less => false,
+        Order::Equal => true,
+        Order::Greater => false,
+    }
+}
+
+// At least v, and a match without its last release number.
+fn compatible(v: Version, w: Version) -> bool
+    ensures { λ r. ⌜ r ≡ isGe (comparePublic (valueOf [] w) (valueOf [] v)) && prefixMatches (shorter (valueOf [] v)) (valueOf [] w) ⌝ }
+{
+    if at_least(w, v) {
+        return matches_shorter(v, w);
+    }
+    false
+}
+
+pub(crate) fn accepts_clause(clause: Clause, w: Version) -> bool
+    ensures { λ r. ⌜ r ≡ clauseAccepts clause (valueOf [] w) ⌝ }
+{
+    let operator = clause.operator;
+    let v = clause.version;
+    match operator {
+        Operator::Equal => equals(clause.wildcard, v, w),
+        Operator::NotEqual => !equals(clause.wildcard, v, w),
+        Operator::Compatible => compatible(v, w),
+        Operator::AtMost => at_most(w, v),
+        Operator::AtLeast => at_least(w, v),
+        Operator::Below => !at_least(w, v),
+        Operator::Above => !at_most(w, v),
+    }
+}
