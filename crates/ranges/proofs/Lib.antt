@@ -9,6 +9,7 @@ pub mod Longest
 pub mod First
 pub mod Table
 pub mod Map
+pub mod Same
 pub mod Grow
 pub mod Cuts
 pub mod Plain

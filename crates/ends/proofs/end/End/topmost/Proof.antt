@@ -1,0 +1,12 @@
+-- `ends::end::End::topmost` meets its contract.
+-- Assumes nothing.
+use borrow.Author.Needs.{needs}
+use Rattle.ends.proofs.end.End.topmost.Statement.{statement}
+use Rattle.ends.proofs.end.End.topmost.Tie as tie
+
+pub topmost-spec : {M : Type 1} → statement M
+topmost-spec =
+    tie.close
+    (tie.spec
+    (λ c κs. search needs)
+    (λ c. cc))

@@ -1,0 +1,6 @@
+pub mod Cut
+pub mod Shape
+pub mod End
+pub mod Number
+pub mod Sound
+pub mod Writable
