@@ -1,0 +1,8 @@
+pub mod Record
+pub mod Kind
+pub mod Body
+pub mod Table
+pub mod WellFormed
+pub mod Reached
+pub mod Lookup
+pub mod Text
