@@ -1,0 +1,69 @@
+-- The ways of `compile`: a refused list, and one whose ranges were folded.
+-- Assumes nothing.
+use mathlib.Core.Path.{_≡_, refl, sym, _∙_, ap}
+use mathlib.Core.List.{List, map}
+use Prim.Native.Nat.{ℕ, _-_, _≤_}
+use native.Mathlib.Omega.{arith}
+use lib.ListN.{length, replicate, length-append, length-map}
+use Rattle.answers.specs.declared.Refusal.{Refusal}
+use Rattle.answers.specs.declared.Written.{Written}
+use Rattle.answers.specs.declared.Written.the-variants.{Refused}
+use Rattle.answers.specs.Written.{Printed}
+use Rattle.ranges.specs.Range.{Range}
+use Rattle.ranges.specs.Map.{mapRange}
+use Rattle.clause.specs.declared.list.Checked.{Checked}
+use Rattle.clause.specs.declared.list.Checked.the-variants.{Count, Refused as NotRead}
+use Rattle.clause.specs.List.{Listing, refused, clauses, listOf, countFrom, checked}
+use Rattle.ends.specs.Number.{placeNumber}
+use Rattle.fold.specs.declared.clauses.Folded.{Folded}
+use Rattle.fold.specs.Ranges.{rangesIn, slots, packed}
+use Rattle.fold.specs.Numbered.{numbered, FoldedAs}
+use Rattle.fold.proofs.Packed.{held-count, held}
+use Rattle.fold.proofs.Folds.{accepted-short}
+use Rattle.fold.proofs.Numbers.{numbered-places}
+use Rattle.table.specs.Text.{tableText}
+use Rattle.compile.specs.Said.{saidBy}
+use Rattle.compile.specs.Compiled.{answerTo, filledTo, Compiled}
+
+module _ (s : List ℕ) (f : Folded) (h : FoldedAs s f) where
+  pub list-short : (n : ℕ) → f .checked ≡ Count n → length s ≤ 1024
+  list-short n e = accepted-short s n (sym e ∙ h .verdict)
+
+  -- the arrays are as long as they have to be
+  room : (g : Range ℕ → ℕ) (array : List ℕ) → array ≡ slots (map g (numbered s)) → f .ranges .count ≤ length array
+  room g array e =
+      let all = length-append (map g (numbered s)) (replicate (34 - length (map g (numbered s))) 0) in
+      rw e (omega (arith, all, length-map (numbered s) g, held-count (numbered s) (h .ranges .is)))
+
+  pub lows-room : f .ranges .count ≤ length (f .ranges .lows)
+  unfolding packed
+  lows-room = room (λ r. r .lo) (f .ranges .lows) (ap (λ q. q .lows) (h .ranges .is))
+
+  pub highs-room : f .ranges .count ≤ length (f .ranges .highs)
+  unfolding packed
+  highs-room = room (λ r. r .hi) (f .ranges .highs) (ap (λ q. q .highs) (h .ranges .is))
+
+  refused-by : (l : Listing) (x : Refusal) (buf : List ℕ) → NotRead x ≡ countFrom 0 l → (Refused x ≡ answerTo l buf) × (buf ≡ filledTo l buf)
+  refused-by (refused number place) x buf e = let same : x ≡ record { number = number; place = place } = cc in (ap Refused same, refl)
+  refused-by (clauses cs) x buf e = let impossible : _≡_ {A = ℕ} 0 1 = cc in absurd (omega arith)
+
+  pub compile-refused : (x : Refusal) (buf : List ℕ) → f .checked ≡ NotRead x → Compiled s buf buf (Refused x)
+  unfolding checked
+  compile-refused x buf e = let both = refused-by (listOf s) x buf (sym e ∙ h .verdict) in record { answers = both .0; leaves = both .1 }
+
+  said-by : (l : Listing) (n : ℕ) (old new : List ℕ) (r : Written) → listOf s ≡ l → Count n ≡ countFrom 0 l →
+      Printed (tableText (map (mapRange (placeNumber s)) (numbered s))) old new r → (r ≡ answerTo l old) × (new ≡ filledTo l old)
+  said-by (refused number place) n old new r g e p = let impossible : _≡_ {A = ℕ} 0 1 = cc in absurd (omega arith)
+  said-by (clauses cs) n old new r g e p = let q = rw (numbered-places s cs g) at p in (q .answers, q .leaves)
+
+  pub compile-printed : (n : ℕ) (old new : List ℕ) (r : Written) → f .checked ≡ Count n →
+      Printed (tableText (saidBy s (f .ranges .lows) (f .ranges .highs) (f .ranges .count))) old new r → Compiled s old new r
+  unfolding checked rangesIn
+  compile-printed n old new r e p =
+      let q : Printed (tableText (map (mapRange (placeNumber s)) (numbered s))) old new r = rw (held (h .ranges)) at p in
+      let both = said-by (listOf s) n old new r refl (sym e ∙ h .verdict) q in
+      record { answers = both .0; leaves = both .1 }
+
+-- one answer and one buffer meet the statement
+pub one-compiled : {s old new new′ : List ℕ} {r q : Written} → Compiled s old new r → Compiled s old new′ q → (r ≡ q) × (new ≡ new′)
+one-compiled p q = (p .answers ∙ sym (q .answers), p .leaves ∙ sym (q .leaves))

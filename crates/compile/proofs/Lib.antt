@@ -1,0 +1,5 @@
+pub mod Shaped
+pub mod Bodies
+pub mod Writing
+pub mod Numbers
+pub mod Compiling

@@ -1,0 +1,83 @@
+// Writing a table whose ranges are given by the numbers of their ends.
+use crate::number::end_number;
+use crate::record::lower_kind;
+use crate::record::put_count;
+use crate::record::put_end;
+use crate::record::upper_kind;
+use answers::Refusal;
+use answers::Written;
+ghost use mathlib.Core.List.{_++_};
+ghost use Prim.Native.Nat.{_≤_};
+ghost use lib.ListN.{length};
+ghost use Rattle.answers.specs.Written.{Printed};
+ghost use Rattle.decimal.specs.Put.{Put};
+ghost use Rattle.ends.specs.Number.{placeNumber};
+ghost use Rattle.table.specs.Text.{lowerText, upperText, rangesText, tableText};
+ghost use Rattle.compile.specs.Said.{saidBy};
+
+fn put_range(buf: &mut [u8], at: usize, list: &[u8], low: u8, high: u8) -> usize
+    requires { ⌜ length (now list) ≤ 1024 ⌝ }
+    ensures { λ r. ⌜ Put 2098658 (now (buf .entry)) at (lowerText (placeNumber (now (list .entry)) low) ++ upperText (placeNumber (now (list .entry)) high)) (now (buf .exit)) r ⌝ }
+{
+    let lower = end_number(list, low as usize);
+    let upper = end_number(list, high as usize);
+    let middle = put_end(buf, at, lower_kind(lower), lower);
+    put_end(buf, middle, upper_kind(upper), upper)
+}
+
+fn put_ranges(
+    buf: &mut [u8],
+    at: usize,
+    list: &[u8],
+    lows: &[u8],
+    highs: &[u8],
+    count: usize,
+) -> usize
+    requires { ⌜ (length (now list) ≤ 1024) × (count ≤ 17) × (count ≤ length (now lows)) × (count ≤ length (now highs)) ⌝ }
+    ensures { λ r. ⌜ Put 35677186 (now (buf .entry)) at (rangesText (saidBy (now (list .entry)) (now (lows .entry)) (now (highs .entry)) count)) (now (buf .exit)) r ⌝ }
+{
+    let mut next = at;
+    let mut i = 0;
+    while i < count {
+        next = put_range(buf, next, list, lows[i], highs[i]);
+        i += 1;
+    }
+    next
+}
+
+fn put_table(
+    buf: &mut [u8],
+    at: usize,
+    list: &[u8],
+    lows: &[u8],
+    highs: &[u8],
+    count: usize,
+) -> usize
+    requires { ⌜ (length (now list) ≤ 1024) × (count ≤ 17) × (count ≤ length (now lows)) × (count ≤ length (now highs)) ⌝ }
+    ensures { λ r. ⌜ Put 35677192 (now (buf .entry)) at (tableText (saidBy (now (list .entry)) (now (lows .entry)) (now (highs .entry)) count)) (now (buf .exit)) r ⌝ }
+{
+    let first = put_count(buf, at, count);
+    put_ranges(buf, first, list, lows, highs, count)
+}
+
+// Writes the table to the front of a buffer, or says how much room it needs.
+pub(crate) fn print_table(
+    list: &[u8],
+    lows: &[u8],
+    highs: &[u8],
+    count: usize,
+    buf: &mut [u8],
+) -> Written
+    requires { ⌜ (length (now list) ≤ 1024) × (count ≤ 17) × (count ≤ length (now lows)) × (count ≤ length (now highs)) ⌝ }
+    ensures { λ r. ⌜ Printed (tableText (saidBy (now (list .entry)) (now (lows .entry)) (now (highs .entry)) count)) (now (buf .entry)) (now (buf .exit)) r ⌝ }
+{
+    let mut none = [0u8; 0];
+    let need = put_table(&mut none, 0, list, lows, highs, count);
+    if buf.len() < need {
+        return Written::Refused(Refusal {
+            number: 11,
+            place: need,
+        });
+    }
+    Written::Length(put_table(buf, 0, list, lows, highs, count))
+}

@@ -1,0 +1,11 @@
+pub mod Anchors
+pub mod Packed
+pub mod Parts
+pub mod Filled
+pub mod Tests
+pub mod Compared
+pub mod Stored
+pub mod Turned
+pub mod Shapes
+pub mod Folds
+pub mod Numbers

@@ -1,0 +1,19 @@
+-- `fold::clauses::fold` meets its contract: a refused list has no range, and of another all clauses are folded.
+-- Assumes nothing.
+use borrow.Author.Needs.{needs}
+use Rattle.fold.proofs.Folds.{refused-none, count-is, short-enough, all-folded}
+use Rattle.fold.proofs.clauses.fold.Statement.{statement}
+use Rattle.fold.proofs.clauses.fold.Tie as tie
+
+pub fold-spec : {M : Type 1} → statement M
+fold-spec =
+    tie.close
+    (tie.spec
+    (λ c κs. search needs)
+    (λ c. search needs)
+    (λ c. search needs)
+    (λ c κs. search needs)
+    (λ c. record { verdict = search needs; ranges = search refused-none })
+    (λ c. search needs)
+    (λ c κs. (search count-is, search short-enough, search needs))
+    (λ c. record { verdict = cc; ranges = search all-folded }))

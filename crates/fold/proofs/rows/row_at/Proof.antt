@@ -1,0 +1,20 @@
+-- `fold::rows::row_at` meets its contract.
+-- Assumes nothing.
+use borrow.Author.Needs.{needs}
+use Rattle.fold.proofs.Tests.{row-past, row-there}
+use Rattle.fold.proofs.rows.row_at.Statement.{statement}
+use Rattle.fold.proofs.rows.row_at.Tie as tie
+
+pub row-at-spec : {M : Type 1} → statement M
+row-at-spec =
+    tie.close
+    (tie.spec
+    (λ c. search needs)
+    (λ c. search row-past)
+    (λ c. search needs)
+    (λ c. search needs)
+    (λ c. search needs)
+    (λ c. search needs)
+    (λ c. search needs)
+    (λ c. search needs)
+    (λ c. search row-there))

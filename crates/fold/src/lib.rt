@@ -1,0 +1,6 @@
+// From a clause list to the numbers of its ranges' ends.
+pub mod clauses;
+mod clip;
+mod row;
+mod rows;
+pub mod slots;
