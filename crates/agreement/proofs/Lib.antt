@@ -1,0 +1,5 @@
+pub mod Records
+pub mod Bodies
+pub mod Reread
+pub mod Agreement
+pub mod Known
