@@ -6,6 +6,7 @@ use crate::decode::read_natural;
 use crate::kinds::Kind;
 use crate::kinds::OfNumber;
 use crate::kinds::OfText;
+use crate::kinds::OfTexts;
 use crate::kinds::kind_of;
 use crate::say::put_hex;
 use crate::say::put_reading;
@@ -14,12 +15,15 @@ use crate::say::put_word;
 use crate::say::put_written;
 use crate::words::word;
 use crate::words::word_count;
+use answers::Written;
 use chars::place::part;
+use clause::accept::Accepts;
 use clause::list::Checked;
 use compare::text::Compared;
 use decimal::put::put_byte;
 use decimal::put::put_bytes;
 use decimal::put::put_number;
+use table::lookup::Looked;
 use word::packed::Worded;
 ghost use Prim.Native.Nat.{_≤_};
 ghost use lib.ListN.{length};
@@ -52,7 +56,7 @@ fn answer_words(line: &[u8], texts: &mut [u8], out: &mut [u8]) -> usize {
     match kind {
         Kind::Text(asked) => of_text(asked, part(texts, 0, end), out),
         Kind::Number(asked) => of_number_word(asked, part(texts, 0, end), word(line, 2), out),
-        Kind::Texts => of_two_texts(word(line, 2), texts, end, out),
+        Kind::Texts(asked) => of_two_texts(asked, word(line, 2), texts, end, out),
         Kind::Unknown => no_question(out),
     }
 }
@@ -95,11 +99,48 @@ fn of_word(text: &[u8], out: &mut [u8]) -> usize {
 }
 
 // The second text stands behind the first in the buffer.
-fn of_two_texts(word: &[u8], texts: &mut [u8], end: usize, out: &mut [u8]) -> usize {
+fn of_two_texts(
+    asked: OfTexts,
+    word: &[u8],
+    texts: &mut [u8],
+    end: usize,
+    out: &mut [u8],
+) -> usize {
     let Decoded::End(second_end) = decode(word, texts, end) else {
         return no_question(out);
     };
-    of_compare(part(texts, 0, end), part(texts, end, second_end), out)
+    of_texts(
+        asked,
+        part(texts, 0, end),
+        part(texts, end, second_end),
+        out,
+    )
+}
+
+fn of_texts(asked: OfTexts, first: &[u8], second: &[u8], out: &mut [u8]) -> usize {
+    match asked {
+        OfTexts::Compare => of_compare(first, second, out),
+        OfTexts::Accepts => of_accepts(first, second, out),
+        OfTexts::Lookup => of_lookup(first, second, out),
+    }
+}
+
+fn of_accepts(list: &[u8], version: &[u8], out: &mut [u8]) -> usize {
+    match clause::accepts(list, version) {
+        Accepts::Yes => put_bytes(out, 0, b"yes"),
+        Accepts::No => put_bytes(out, 0, b"no"),
+        Accepts::List(refusal) => put_refusal(out, 0, b"list ", refusal),
+        Accepts::Version(refusal) => put_refusal(out, 0, b"version ", refusal),
+    }
+}
+
+fn of_lookup(table: &[u8], version: &[u8], out: &mut [u8]) -> usize {
+    match table::lookup::lookup(table, version) {
+        Looked::Yes => put_bytes(out, 0, b"yes"),
+        Looked::No => put_bytes(out, 0, b"no"),
+        Looked::Table(refusal) => put_refusal(out, 0, b"table ", refusal),
+        Looked::Version(refusal) => put_refusal(out, 0, b"version ", refusal),
+    }
 }
 
 fn of_compare(first: &[u8], second: &[u8], out: &mut [u8]) -> usize {
@@ -132,22 +173,31 @@ fn of_number_word(asked: OfNumber, text: &[u8], word: &[u8], out: &mut [u8]) -> 
 fn of_number(asked: OfNumber, text: &[u8], n: usize, out: &mut [u8]) -> usize {
     match asked {
         OfNumber::Segment => put_hex(out, 0, version::segment(text, n)),
-        OfNumber::Normal => in_a_buffer(text, n, out),
+        OfNumber::Normal => in_a_buffer(false, text, n, out),
+        OfNumber::Compile => in_a_buffer(true, text, n, out),
     }
 }
 
-fn in_a_buffer(text: &[u8], n: usize, out: &mut [u8]) -> usize {
+fn in_a_buffer(list: bool, text: &[u8], n: usize, out: &mut [u8]) -> usize {
     if LARGEST_ROOM < n {
         return no_question(out);
     }
     let mut buffer = [165u8; 16384];
-    of_normal(text, &mut buffer, n, out)
+    of_room(list, text, &mut buffer, n, out)
 }
 
 // In the first n bytes of a buffer.
-fn of_normal(text: &[u8], buffer: &mut [u8], n: usize, out: &mut [u8]) -> usize
+fn of_room(list: bool, text: &[u8], buffer: &mut [u8], n: usize, out: &mut [u8]) -> usize
     requires { ⌜ n ≤ length (now buffer) ⌝ }
 {
-    let written = version::normal(text, &mut buffer[..n]);
+    let written = write(list, text, &mut buffer[..n]);
     put_written(out, written, part(buffer, 0, n))
+}
+
+// The table of a list, or the normal text of a version.
+fn write(list: bool, text: &[u8], buffer: &mut [u8]) -> Written {
+    if list {
+        return compile::compile(text, buffer);
+    }
+    version::normal(text, buffer)
 }

@@ -11,13 +11,20 @@ pub enum OfText {
 pub enum OfNumber {
     Segment,
     Normal,
+    Compile,
+}
+
+pub enum OfTexts {
+    Compare,
+    Accepts,
+    Lookup,
 }
 
 // A question about a text, about a text and a number, or about two texts.
 pub enum Kind {
     Text(OfText),
     Number(OfNumber),
-    Texts,
+    Texts(OfTexts),
     Unknown,
 }
 
@@ -44,8 +51,17 @@ fn of_three(word: &[u8]) -> Kind {
     if same(word, b"normal") {
         return Kind::Number(OfNumber::Normal);
     }
+    if same(word, b"compile") {
+        return Kind::Number(OfNumber::Compile);
+    }
     if same(word, b"compare") {
-        return Kind::Texts;
+        return Kind::Texts(OfTexts::Compare);
+    }
+    if same(word, b"accepts") {
+        return Kind::Texts(OfTexts::Accepts);
+    }
+    if same(word, b"lookup") {
+        return Kind::Texts(OfTexts::Lookup);
     }
     Kind::Unknown
 }

@@ -1,12 +1,12 @@
--- `replay::answer::of_normal` meets its contract: it is safe.
+-- `replay::answer::of_room` meets its contract: it is safe.
 -- Assumes nothing.
 use lib.Seq.{length-take-le}
 use borrow.Author.Needs.{needs}
-use Rattle.replay.proofs.answer.of_normal.Statement.{statement}
-use Rattle.replay.proofs.answer.of_normal.Tie as tie
+use Rattle.replay.proofs.answer.of_room.Statement.{statement}
+use Rattle.replay.proofs.answer.of_room.Tie as tie
 
-pub of-normal-spec : {M : Type 1} → statement M
-of-normal-spec =
+pub of-room-spec : {M : Type 1} → statement M
+of-room-spec =
     tie.close
     (tie.spec
     (λ c. search needs)
