@@ -2,4 +2,5 @@ pub mod Records
 pub mod Bodies
 pub mod Reread
 pub mod Agreement
+pub mod Sizes
 pub mod Known
