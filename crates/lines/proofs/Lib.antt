@@ -1,0 +1,4 @@
+pub mod Anchors
+pub mod Fronts
+pub mod Slides
+pub mod Reading
