@@ -1,0 +1,21 @@
+-- `knappulf::fields::put_segment` meets its contract: the numbers stand in the order of `row`.
+-- Assumes nothing.
+use borrow.Author.Needs.{needs}
+use Rattle.knappulf.proofs.Rows.{row-is}
+use Rattle.knappulf.proofs.fields.put_segment.Statement.{statement}
+use Rattle.knappulf.proofs.fields.put_segment.Tie as tie
+
+pub put-segment-spec : {M : Type 1} → statement M
+put-segment-spec =
+    tie.close
+    (tie.spec
+    (λ c κs. search needs)
+    (λ c κs. search needs)
+    (λ c κs. search needs)
+    (λ c κs. search needs)
+    (λ c. search needs)
+    (λ c. search needs)
+    (λ c. search needs)
+    (λ c κs. search needs)
+    (λ c. search needs)
+    (λ c. search row-is))

@@ -1,0 +1,15 @@
+-- `knappulf::knappulf_check` meets its contract: the answer is told.
+-- Assumes nothing.
+use borrow.Author.Needs.{needs}
+use Rattle.knappulf.proofs.Tells.{told-as}
+use Rattle.knappulf.proofs.knappulf_check.Statement.{statement}
+use Rattle.knappulf.proofs.knappulf_check.Tie as tie
+
+pub knappulf-check-spec : {M : Type 1} → statement M
+knappulf-check-spec =
+    tie.close
+    (tie.spec
+    (λ c κs. search needs)
+    (λ c κs. search needs)
+    (λ c κs. search needs)
+    (λ c. told-as (c .tell .ensures) cc))

@@ -1,0 +1,15 @@
+-- `knappulf::knappulf_lookup` meets its contract: the answer is told.
+-- Assumes nothing.
+use borrow.Author.Needs.{needs}
+use Rattle.knappulf.proofs.Tells.{told-as}
+use Rattle.knappulf.proofs.knappulf_lookup.Statement.{statement}
+use Rattle.knappulf.proofs.knappulf_lookup.Tie as tie
+
+pub knappulf-lookup-spec : {M : Type 1} → statement M
+knappulf-lookup-spec =
+    tie.close
+    (tie.spec
+    (λ c κs. search needs)
+    (λ c κs. search needs)
+    (λ c κs. search needs)
+    (λ c. told-as (c .tell .ensures) cc))

@@ -1,0 +1,16 @@
+-- `knappulf::knappulf_read` meets its contract: the verdict is told, and decides on the fields.
+-- Assumes nothing.
+use borrow.Author.Needs.{needs}
+use Rattle.knappulf.proofs.Tells.{told-as}
+use Rattle.knappulf.proofs.knappulf_read.Statement.{statement}
+use Rattle.knappulf.proofs.knappulf_read.Tie as tie
+
+pub knappulf-read-spec : {M : Type 1} → statement M
+knappulf-read-spec =
+    tie.close
+    (tie.spec
+    (λ c κs. search needs)
+    (λ c κs. search needs)
+    (λ c κs. search needs)
+    (λ c κs. search needs)
+    (λ c. (told-as (c .tell .ensures) cc, cc)))

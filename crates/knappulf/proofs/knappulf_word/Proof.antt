@@ -1,0 +1,15 @@
+-- `knappulf::knappulf_word` meets its contract: the answer is told.
+-- Assumes nothing.
+use borrow.Author.Needs.{needs}
+use Rattle.knappulf.proofs.Tells.{told-as}
+use Rattle.knappulf.proofs.knappulf_word.Statement.{statement}
+use Rattle.knappulf.proofs.knappulf_word.Tie as tie
+
+pub knappulf-word-spec : {M : Type 1} → statement M
+knappulf-word-spec =
+    tie.close
+    (tie.spec
+    (λ c κs. search needs)
+    (λ c κs. search needs)
+    (λ c κs. search needs)
+    (λ c. told-as (c .tell .ensures) cc))

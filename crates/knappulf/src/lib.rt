@@ -1,0 +1,135 @@
+// The entry points for C. Each returns a refusal's number, 0 for none, and leaves a value, a place and which text in the lent answer.
+pub mod fields;
+pub mod pair;
+pub mod said;
+
+use crate::fields::put_accepted;
+use crate::fields::span_at;
+use crate::said::of_accepts;
+use crate::said::of_checked;
+use crate::said::of_compared;
+use crate::said::of_looked;
+use crate::said::of_verdict;
+use crate::said::of_worded;
+use crate::said::of_written;
+use crate::said::tell;
+use reading::segment::Segment;
+use reading::segment::segment_bytes;
+use reading::segment::segment_of;
+ghost use mathlib.Core.Path.{_≡_};
+ghost use mathlib.Core.Bool.{false};
+ghost use lib.ListN.{length};
+ghost use Rattle.reading.specs.Reading.{patternOf, versionOf};
+ghost use Rattle.reading.specs.Segment.{segmentText};
+ghost use Rattle.normal.specs.Normal.{answerTo, filledTo, normalText};
+ghost use Rattle.compare.specs.Compared.{compared};
+ghost use Rattle.word.specs.Worded.{wordAnswer};
+ghost use Rattle.clause.specs.List.{checked, listOf};
+ghost use Rattle.clause.specs.Accept.{accepted};
+ghost use Rattle.compile.specs.Compiled as compiled;
+ghost use Rattle.table.specs.Lookup.{looked};
+ghost use Rattle.knappulf.specs.Fields.{fieldsBy, segmentStart};
+ghost use Rattle.knappulf.specs.Said.{Told, ofVerdict, ofWritten, ofCompared, ofWorded, ofChecked, ofAccepts, ofLooked};
+
+// The fields of a version. A refused text leaves them as they were.
+#[no_mangle]
+pub extern "C" fn knappulf_read(text: &[u8], fields: &mut [u64; 89], answer: &mut [u64; 3]) -> u8
+    ensures { λ r. ⌜ Told (ofVerdict (versionOf (now (text .entry)) .verdict) false) (now (answer .exit)) r ⌝ }
+    ensures { λ _. ⌜ now (fields .exit) ≡ fieldsBy (versionOf (now (text .entry)) .verdict) (now (text .entry)) (versionOf (now (text .entry)) .version) (now (fields .entry)) ⌝ }
+{
+    let read = version::read(text);
+    let verdict = read.verdict;
+    let version = read.version;
+    put_accepted(fields, text, verdict, version);
+    tell(of_verdict(verdict, false), answer)
+}
+
+// The fields of a version that a wildcard may follow; the value says whether it does.
+#[no_mangle]
+pub extern "C" fn knappulf_pattern(text: &[u8], fields: &mut [u64; 89], answer: &mut [u64; 3]) -> u8
+    ensures { λ r. ⌜ Told (ofVerdict (patternOf (now (text .entry)) .verdict) (patternOf (now (text .entry)) .wildcard)) (now (answer .exit)) r ⌝ }
+    ensures { λ _. ⌜ now (fields .exit) ≡ fieldsBy (patternOf (now (text .entry)) .verdict) (now (text .entry)) (patternOf (now (text .entry)) .version) (now (fields .entry)) ⌝ }
+{
+    let read = version::pattern(text);
+    let verdict = read.verdict;
+    let version = read.version;
+    put_accepted(fields, text, verdict, version);
+    tell(of_verdict(verdict, read.wildcard), answer)
+}
+
+// How long the text segment with that index is, and where it begins: both 0 for a number, a missing segment or a refused text.
+#[no_mangle]
+pub extern "C" fn knappulf_segment(text: &[u8], index: usize, start: &mut u64) -> usize
+    ensures { λ r. ⌜ r ≡ length (segmentText (now (text .entry)) index) ⌝ }
+    ensures { λ _. ⌜ now (start .exit) ≡ segmentStart (now (text .entry)) index ⌝ }
+{
+    let read = version::read(text);
+    let version = read.version;
+    let local = version.local;
+    let bytes = segment_bytes(text, local, index);
+    let Segment::Text = segment_of(bytes) else {
+        *start = 0;
+        return 0;
+    };
+    let span = span_at(local, index);
+    *start = span.start as u64;
+    bytes.len()
+}
+
+// The normal text of a version, in front of a buffer; the value is its length.
+#[no_mangle]
+pub extern "C" fn knappulf_normal(text: &[u8], buffer: &mut [u8], answer: &mut [u64; 3]) -> u8
+    ensures { λ r. ⌜ Told (ofWritten (answerTo (versionOf (now (text .entry)) .verdict) (normalText (now (text .entry))) (now (buffer .entry)))) (now (answer .exit)) r ⌝ }
+    ensures { λ _. ⌜ now (buffer .exit) ≡ filledTo (versionOf (now (text .entry)) .verdict) (normalText (now (text .entry))) (now (buffer .entry)) ⌝ }
+{
+    tell(of_written(version::normal(text, buffer)), answer)
+}
+
+// The value is 0 for less, 1 for equal, 2 for greater.
+#[no_mangle]
+pub extern "C" fn knappulf_compare(first: &[u8], second: &[u8], answer: &mut [u64; 3]) -> u8
+    ensures { λ r. ⌜ Told (ofCompared (compared (now (first .entry)) (now (second .entry)))) (now (answer .exit)) r ⌝ }
+{
+    tell(of_compared(version::compare(first, second)), answer)
+}
+
+// The value is the packed word of a small version, 0 where it is not small.
+#[no_mangle]
+pub extern "C" fn knappulf_word(text: &[u8], answer: &mut [u64; 3]) -> u8
+    ensures { λ r. ⌜ Told (ofWorded (wordAnswer (now (text .entry)))) (now (answer .exit)) r ⌝ }
+{
+    tell(of_worded(version::word(text)), answer)
+}
+
+// The value is how many clauses a list has.
+#[no_mangle]
+pub extern "C" fn knappulf_check(list: &[u8], answer: &mut [u64; 3]) -> u8
+    ensures { λ r. ⌜ Told (ofChecked (checked (now (list .entry)))) (now (answer .exit)) r ⌝ }
+{
+    tell(of_checked(clause::list::check(list)), answer)
+}
+
+// The value is 1 where every clause of the list accepts the version, else 0.
+#[no_mangle]
+pub extern "C" fn knappulf_accepts(list: &[u8], version: &[u8], answer: &mut [u64; 3]) -> u8
+    ensures { λ r. ⌜ Told (ofAccepts (accepted (now (list .entry)) (now (version .entry)))) (now (answer .exit)) r ⌝ }
+{
+    tell(of_accepts(clause::accepts(list, version)), answer)
+}
+
+// The range table of a list, in front of a buffer; the value is its length.
+#[no_mangle]
+pub extern "C" fn knappulf_compile(list: &[u8], buffer: &mut [u8], answer: &mut [u64; 3]) -> u8
+    ensures { λ r. ⌜ Told (ofWritten (compiled.answerTo (listOf (now (list .entry))) (now (buffer .entry)))) (now (answer .exit)) r ⌝ }
+    ensures { λ _. ⌜ now (buffer .exit) ≡ compiled.filledTo (listOf (now (list .entry))) (now (buffer .entry)) ⌝ }
+{
+    tell(of_written(compile::compile(list, buffer)), answer)
+}
+
+// The value is 1 where the table holds the version, else 0.
+#[no_mangle]
+pub extern "C" fn knappulf_lookup(table: &[u8], version: &[u8], answer: &mut [u64; 3]) -> u8
+    ensures { λ r. ⌜ Told (ofLooked (looked (now (table .entry)) (now (version .entry)))) (now (answer .exit)) r ⌝ }
+{
+    tell(of_looked(table::lookup::lookup(table, version)), answer)
+}
