@@ -1,5 +1,6 @@
 // The class of each byte, from one table, and runs of bytes of neighbouring classes.
 ghost use mathlib.Core.Path.{_≡_};
+ghost use Prim.Native.Nat.{_<_};
 ghost use Rattle.chars.specs.Class.{Classed, Counted, between};
 
 // The numbers go so that letters and digits, the bytes of a word, are the classes from DIGIT up.
@@ -272,11 +273,66 @@ const CLASSES: [u8; 256] = [
     0,
 ];
 
+// By the table. It is laid on the stack at each use, so that a loop over a text asks `ranged` instead.
 pub fn class_of(b: u8) -> u8
     ensures { λ r. ⌜ Classed b r ⌝ }
 {
     let i = b as usize;
     CLASSES[i]
+}
+
+// The same by the ranges of bytes.
+pub fn ranged(b: u8) -> u8
+    ensures { λ r. ⌜ Classed b r ⌝ }
+{
+    if b < b'0' {
+        return low_ranged(b);
+    }
+    if b <= b'9' {
+        return DIGIT;
+    }
+    if b < b'A' {
+        return OTHER;
+    }
+    if b <= b'Z' {
+        return LETTER;
+    }
+    if b == b'_' {
+        return SEPARATOR;
+    }
+    if b < b'a' {
+        return OTHER;
+    }
+    if b <= b'z' {
+        return LETTER;
+    }
+    OTHER
+}
+
+// Of the bytes below the digits.
+fn low_ranged(b: u8) -> u8
+    requires { ⌜ b < 48 ⌝ }
+    ensures { λ r. ⌜ Classed b r ⌝ }
+{
+    if b == b' ' {
+        return BLANK;
+    }
+    if b == b'.' {
+        return SEPARATOR;
+    }
+    if b == b'-' {
+        return SEPARATOR;
+    }
+    if 13 < b {
+        return OTHER;
+    }
+    if b < 9 {
+        return OTHER;
+    }
+    if b == 11 {
+        return OTHER;
+    }
+    BLANK
 }
 
 // How many bytes at the front of s have a class from low to high.
@@ -285,7 +341,7 @@ pub fn run(s: &[u8], low: u8, high: u8) -> usize
 {
     let mut i = 0;
     while i < s.len() {
-        let class = class_of(s[i]);
+        let class = ranged(s[i]);
         if class < low {
             return i;
         }

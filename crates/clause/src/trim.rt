@@ -8,7 +8,7 @@ pub fn trimmed_len(s: &[u8]) -> usize
 {
     let mut n = s.len();
     while 0 < n {
-        if class::class_of(s[n - 1]) != class::BLANK {
+        if class::ranged(s[n - 1]) != class::BLANK {
             return n;
         }
         n -= 1;

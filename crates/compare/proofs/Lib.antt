@@ -10,4 +10,5 @@ pub mod Places
 pub mod Bytes
 pub mod Labels
 pub mod Texts
+pub mod Shorts
 pub mod Nexts

@@ -1,5 +1,6 @@
 pub mod Key
 pub mod Versions
+pub mod Short
 pub mod Compared
 pub mod Prefix
 pub mod Next

@@ -74,18 +74,24 @@ fn dev_number(pre: Pre, post: Part, dev: Part) -> u64
     0
 }
 
-pub fn key_of(version: Version) -> Key
-    ensures { λ r. ⌜ r ≡ keyOf (version .pre) (version .post) (version .dev) ⌝ }
+pub(crate) fn key_from(pre: Pre, post: Part, dev: Part) -> Key
+    ensures { λ r. ⌜ r ≡ keyOf pre post dev ⌝ }
 {
-    let pre = version.pre;
-    let post = version.post;
-    let dev = version.dev;
     Key {
         kind: kind_of(pre, post, dev),
         pre: pre_number(pre),
         post,
         dev: dev_number(pre, post, dev),
     }
+}
+
+pub fn key_of(version: Version) -> Key
+    ensures { λ r. ⌜ r ≡ keyOf (version .pre) (version .post) (version .dev) ⌝ }
+{
+    let pre = version.pre;
+    let post = version.post;
+    let dev = version.dev;
+    key_from(pre, post, dev)
 }
 
 // A missing post is below any post.

@@ -4,5 +4,6 @@ pub mod label;
 pub mod lengths;
 pub mod next;
 pub mod prefix;
+pub mod short;
 pub mod text;
 pub mod version;

@@ -1,7 +1,9 @@
 // Comparing the versions that two texts say.
+use crate::short::compare_shorts;
 use crate::version::compare_versions;
 use answers::Refusal;
 use order::Order;
+use reading::short::read_short;
 use reading::text::Verdict;
 use reading::text::read_version;
 ghost use mathlib.Core.Path.{_≡_};
@@ -26,7 +28,7 @@ fn answer(order: Order) -> Compared
     }
 }
 
-pub fn compare(first: &[u8], second: &[u8]) -> Compared
+fn compare_read(first: &[u8], second: &[u8]) -> Compared
     ensures { λ r. ⌜ r ≡ compared (now (first .entry)) (now (second .entry)) ⌝ }
 {
     let one = read_version(first);
@@ -42,4 +44,21 @@ pub fn compare(first: &[u8], second: &[u8]) -> Compared
     let v = one.version;
     let w = other.version;
     answer(compare_versions(first, v, second, w))
+}
+
+// Two short versions, as most are, are compared without their fields being laid out.
+pub fn compare(first: &[u8], second: &[u8]) -> Compared
+    ensures { λ r. ⌜ r ≡ compared (now (first .entry)) (now (second .entry)) ⌝ }
+{
+    let one = read_short(first);
+    if !one.found {
+        return compare_read(first, second);
+    }
+    let other = read_short(second);
+    if !other.found {
+        return compare_read(first, second);
+    }
+    let v = one.short;
+    let w = other.short;
+    answer(compare_shorts(v, w))
 }

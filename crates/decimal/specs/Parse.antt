@@ -37,6 +37,10 @@ abbrev pub sized : ℕ → Number → Leading
 sized len (Value n) = Read n len
 sized len TooBig = LeadingTooBig
 
+-- so many digits with their value; none where there is no digit
+abbrev pub counted : ℕ → ℕ → Leading
+counted value count = pick (eqb count 0) Absent (Read value count)
+
 unfoldable pub leadingOf : List ℕ → Leading
 leadingOf s = pick (eqb (digitsOf s) 0) Absent (sized (digitsOf s) (numberOf (take (digitsOf s) s)))
 

@@ -1,7 +1,9 @@
 // Reading a number of 64 bits from its digits.
 use chars::class;
 ghost use mathlib.Core.Path.{_≡_};
-ghost use Rattle.decimal.specs.Parse.{Digit, Led, numberOf};
+ghost use Prim.Native.Nat.{_+_, _*_, _^_, _≤_};
+ghost use lib.Dec.{leb};
+ghost use Rattle.decimal.specs.Parse.{Digit, Led, numberOf, counted};
 
 pub enum Number {
     Value(u64),
@@ -28,6 +30,23 @@ fn digit(b: u8) -> u64
     (b - b'0') as u64
 }
 
+// Whether one more digit behind a value is too much for 64 bits.
+fn overflows(value: u64, d: u64) -> bool
+    requires { ⌜ d ≤ 9 ⌝ }
+    ensures { λ r. ⌜ r ≡ leb (2 ^ 64) (value * 10 + d) ⌝ }
+{
+    if value < 1844674407370955161 {
+        return false;
+    }
+    if 1844674407370955161 < value {
+        return true;
+    }
+    if 5 < d {
+        return true;
+    }
+    false
+}
+
 // The number that the digits write. No digit at all writes 0.
 pub fn parse_u64(digits: &[u8]) -> Number
     ensures { λ r. ⌜ r ≡ numberOf (now (digits .entry)) ⌝ }
@@ -36,7 +55,7 @@ pub fn parse_u64(digits: &[u8]) -> Number
     let mut i = 0;
     while i < digits.len() {
         let d = digit(digits[i]);
-        if (18446744073709551615 - d) / 10 < value {
+        if overflows(value, d) {
             return Number::TooBig;
         }
         value = value * 10 + d;
@@ -45,15 +64,32 @@ pub fn parse_u64(digits: &[u8]) -> Number
     Number::Value(value)
 }
 
+// So many digits with their value; none where there is no digit.
+fn counted(value: u64, count: usize) -> Leading
+    ensures { λ r. ⌜ r ≡ counted value count ⌝ }
+{
+    if count == 0 {
+        return Leading::Absent;
+    }
+    Leading::Read(value, count)
+}
+
 pub fn leading_number(rest: &[u8]) -> Leading
     ensures { λ r. ⌜ Led (now (rest .entry)) r ⌝ }
 {
-    let len = class::run(rest, class::DIGIT, class::DIGIT);
-    if len == 0 {
-        return Leading::Absent;
+    let mut total: u64 = 0;
+    let mut i = 0;
+    while i < rest.len() {
+        let b = rest[i];
+        if class::ranged(b) != class::DIGIT {
+            return counted(total, i);
+        }
+        let d = digit(b);
+        if overflows(total, d) {
+            return Leading::TooBig;
+        }
+        total = total * 10 + d;
+        i += 1;
     }
-    let Number::Value(n) = parse_u64(&rest[..len]) else {
-        return Leading::TooBig;
-    };
-    Leading::Read(n, len)
+    counted(total, i)
 }

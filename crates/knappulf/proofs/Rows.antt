@@ -8,7 +8,10 @@ use native.Mathlib.Numerals.{add-one}
 use native.Mathlib.Omega.{arith}
 use lib.ListN.{length, length-append, getD, set, drop, drop-of-length-le}
 use lib.Seq.{sets, sets-eq, length-sets, drop-cons, drop-length}
+use borrow.Author.Tests.{le-leb}
 use Rattle.answers.specs.declared.Refusal.{Refusal}
+use Rattle.chars.specs.Class.{front}
+use Rattle.decimal.specs.Parse.{valueFrom, numberOf}
 use Rattle.reading.specs.declared.fields.Local.{Local}
 use Rattle.reading.specs.declared.fields.Span.{Span}
 use Rattle.reading.specs.declared.fields.Version.{Version}
@@ -52,6 +55,10 @@ rows-done s local l t at i h g e =
 pub row-is : (s : List ℕ) (local : Local) (i at : ℕ) (b l new : List ℕ) (x : Segment) (p : Pair) (g : Span) → b ≡ segmentBytes s local i → x ≡ segmentOf b → p ≡ segmentPair x → g ≡ spanAt local i → new ≡ sets l at (row p g) → new ≡ sets l at (segmentRow s local i)
 unfolding segmentRow
 row-is s local i at b l new x p g e f h k w = w ∙ rw (h, f, e, k)
+
+pub row-missing : (s : List ℕ) (local : Local) (i at : ℕ) (l new : List ℕ) (g : Span) → local .len ≤ i → g ≡ spanAt local i → new ≡ sets l at (0 ∷ 0 ∷ g .start ∷ g .end ∷ []) → new ≡ sets l at (segmentRow s local i)
+unfolding segmentRow segmentBytes segmentOf numberOf valueFrom front
+row-missing s local i at l new g h k w = w ∙ rw (le-leb (local .len) i h, k)
 
 -- the three in a row fill the fields
 pub fields-full : (s : List ℕ) (v : Version) (l a b c : List ℕ) → length (v .release .numbers) ≡ 16 → a ≡ sets l 0 (parts v) → b ≡ sets a 9 (v .release .numbers) → c ≡ sets b 25 (segmentRows s (v .local) 0 16) → length l ≡ 89 → c ≡ fieldsOf s v

@@ -68,6 +68,10 @@ fn put_segment(fields: &mut [u64], at: usize, text: &[u8], local: Local, index: 
     ensures { λ _. ⌜ now (fields .exit) ≡ sets (now (fields .entry)) at (segmentRow (now (text .entry)) local index) ⌝ }
 {
     let span = span_at(local, index);
+    if local.len <= index {
+        let missing = [0, 0, span.start as u64, span.end as u64];
+        return put_numbers(fields, at, &missing);
+    }
     let pair = segment_pair(segment_of(segment_bytes(text, local, index)));
     let numbers = [pair.kind, pair.number, span.start as u64, span.end as u64];
     put_numbers(fields, at, &numbers)

@@ -4,5 +4,6 @@ pub mod Head
 pub mod Suffix
 pub mod Label
 pub mod Reading
+pub mod Short
 pub mod Segment
 pub mod Value

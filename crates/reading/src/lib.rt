@@ -4,5 +4,6 @@ pub mod head;
 pub mod label;
 pub mod places;
 pub mod segment;
+pub mod short;
 pub mod suffix;
 pub mod text;

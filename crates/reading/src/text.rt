@@ -6,6 +6,8 @@ use crate::fields::Version;
 use crate::head::Head;
 use crate::head::read_head;
 use crate::label::read_label;
+use crate::short::read_short;
+use crate::short::whole;
 use crate::suffix::Suffix;
 use crate::suffix::read_suffix;
 use answers::Refusal;
@@ -115,7 +117,7 @@ fn read_rest(s: &[u8], head: Head) -> PatternReading
     }
 }
 
-fn read_as(s: &[u8], wildcards: bool) -> PatternReading
+fn read_long(s: &[u8], wildcards: bool) -> PatternReading
     ensures { λ r. ⌜ Read (patternAs wildcards (now (s .entry))) r ⌝ }
 {
     if 1024 < s.len() {
@@ -130,6 +132,22 @@ fn read_as(s: &[u8], wildcards: bool) -> PatternReading
         return read_star(s, head, wildcards);
     }
     read_rest(s, head)
+}
+
+// Most texts are short versions; the others are read by the rules.
+fn read_as(s: &[u8], wildcards: bool) -> PatternReading
+    ensures { λ r. ⌜ Read (patternAs wildcards (now (s .entry))) r ⌝ }
+{
+    let read = read_short(s);
+    if read.found {
+        let short = read.short;
+        return PatternReading {
+            verdict: Verdict::Accepted,
+            wildcard: false,
+            version: whole(short),
+        };
+    }
+    read_long(s, wildcards)
 }
 
 pub fn read_pattern(s: &[u8]) -> PatternReading

@@ -1,0 +1,16 @@
+-- `reading::short::whole` meets its contract.
+-- Assumes nothing.
+use borrow.Author.Needs.{needs}
+use Rattle.reading.proofs.short.whole.Statement.{statement}
+use Rattle.reading.proofs.short.whole.Tie as tie
+
+pub whole-spec : {M : Type 1} → statement M
+whole-spec =
+    tie.close
+    (tie.spec
+    (λ c. search needs)
+    (λ c. search needs)
+    (λ c. search needs)
+    (λ c. search needs)
+    (λ c κs. search needs)
+    (λ c. rw (c .none .ensures .is)))
