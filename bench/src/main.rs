@@ -4,44 +4,39 @@ mod rows;
 mod texts;
 mod timing;
 
-use rows::Texts;
+use rows::{Texts, ROWS};
+
+/// The longest text that either side is given.
+const LONGEST: usize = 1024;
 
 fn main() {
-    println!("Nanoseconds a call: the proved library, the Rust, and the first divided by the second: the median of the");
-    println!("rounds, and between which four of five lie.");
-    let mixed = Texts::of(texts::mixed(1000), texts::lists(100));
-    print("A realistic mix", &mixed);
-    let mut worst = Vec::new();
-    for (name, text) in texts::long(1024) {
-        worst.push((format!("1,024 bytes, {name}"), Texts::of(vec![text], vec![texts::long_list(1024)])));
+    println!("Nanoseconds a call: the proved library, the Rust, and the first divided by the second (the median of the");
+    println!("rounds, and between which ratios four of five lie).");
+    table("A realistic mix", &Texts::of(texts::mixed(1000), texts::lists(100)));
+    for (shape, text) in texts::long(LONGEST) {
+        table(&format!("1,024 bytes: {shape}"), &Texts::of(vec![text], vec![texts::long_list(LONGEST)]));
     }
-    for (name, texts) in &worst {
-        print(name, texts);
-    }
-    for length in [16, 64, 256, 1024] {
-        for (name, text) in texts::long(length) {
-            let texts = Texts::of(vec![text], vec![texts::long_list(length.max(96))]);
-            growth(length, name, &texts);
-        }
-    }
+    growth();
 }
 
-fn print(title: &str, texts: &Texts) {
-    println!("\n## {title}\n");
-    println!("| call | proved | Rust | ratio | spread |\n|---|---|---|---|---|");
-    for row in rows::ROWS {
+fn table(title: &str, texts: &Texts) {
+    println!("\n## {title}\n\n| call | proved | Rust | ratio | spread |\n|---|---|---|---|---|");
+    for row in ROWS {
         let m = (row.measure)(texts);
         println!("| {} | {:.1} | {:.1} | {:.2} | {:.2} to {:.2} |", row.name, m.ours, m.theirs, m.ratio, m.low, m.high);
     }
 }
 
-fn growth(length: usize, name: &str, texts: &Texts) {
-    let cells: Vec<String> = rows::ROWS
-        .iter()
-        .map(|row| {
-            let m = (row.measure)(texts);
-            format!("{} {:.0} / {:.0}", row.name, m.ours, m.theirs)
-        })
-        .collect();
-    println!("{length} {name}: {}", cells.join(", "));
+/// How the times grow with the length of texts and lists.
+fn growth() {
+    let names: Vec<&str> = ROWS.iter().map(|row| row.name).collect();
+    println!("\n## Growth with the length: proved / Rust\n\n| bytes | shape | {} |", names.join(" | "));
+    println!("|---|---|{}", "---|".repeat(ROWS.len()));
+    for bytes in [128, 256, 512, LONGEST] {
+        for (shape, text) in texts::long(bytes) {
+            let texts = Texts::of(vec![text], vec![texts::long_list(bytes)]);
+            let cells: Vec<String> = ROWS.iter().map(|row| (row.measure)(&texts)).map(|m| format!("{:.0} / {:.0}", m.ours, m.theirs)).collect();
+            println!("| {bytes} | {shape} | {} |", cells.join(" | "));
+        }
+    }
 }

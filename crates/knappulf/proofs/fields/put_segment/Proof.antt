@@ -1,7 +1,7 @@
 -- `knappulf::fields::put_segment` meets its contract: the numbers stand in the order of `row`.
 -- Assumes nothing.
 use borrow.Author.Needs.{needs}
-use Rattle.knappulf.proofs.Rows.{row-is}
+use Rattle.knappulf.proofs.Rows.{row-is, row-missing}
 use Rattle.knappulf.proofs.fields.put_segment.Statement.{statement}
 use Rattle.knappulf.proofs.fields.put_segment.Tie as tie
 
@@ -10,6 +10,12 @@ put-segment-spec =
     tie.close
     (tie.spec
     (λ c κs. search needs)
+    (λ c. search needs)
+    (λ c. search needs)
+    (λ c. search needs)
+    (λ c κs. search needs)
+    (λ c. search needs)
+    (λ c. search row-missing)
     (λ c κs. search needs)
     (λ c κs. search needs)
     (λ c κs. search needs)
