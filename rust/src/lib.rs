@@ -20,7 +20,7 @@ pub use refusal::{Input, Refusal, Refused};
 pub use version::{PreKind, Segment, Version};
 
 use core::cmp::Ordering;
-use ffi::{Answer, Counter, Fields, Judge, Reader, Writer};
+use ffi::{Answer, Counter, Judge, Reader, Writer};
 
 /// A buffer of so many bytes holds the normal text of any version.
 pub const NORMAL_MOST: usize = 1033;
@@ -36,11 +36,12 @@ fn answered(number: u8, answer: Answer) -> Result<u64, Refusal> {
     }
 }
 
-fn read_by(reader: Reader, text: &[u8]) -> Result<(u64, Version<'_>), Refusal> {
-    let (mut fields, mut answer) = (Fields::default(), Answer::default());
-    // SAFETY: the slice is alive, and the two that are written are this function's own.
-    let number = unsafe { reader(text.as_ptr(), text.len(), &mut fields, &mut answer) };
-    Ok((answered(number, answer)?, Version::new(text, fields)))
+/// Reads into the version, and answers with the call's value.
+fn read_by(reader: Reader, version: &mut Version<'_>) -> Result<u64, Refusal> {
+    let mut answer = Answer::default();
+    // SAFETY: the text is alive, and the two that are written are no part of it.
+    let number = unsafe { reader(version.text.as_ptr(), version.text.len(), &mut version.fields, &mut answer) };
+    answered(number, answer)
 }
 
 fn write_by<'b>(writer: Writer, text: &[u8], buffer: &'b mut [u8]) -> Result<&'b [u8], Refusal> {
@@ -73,7 +74,9 @@ fn count_by(counter: Counter, text: &[u8]) -> Result<u64, Refusal> {
 /// assert_eq!(knappulf::read(b"1.*").unwrap_err().number, 6);
 /// ```
 pub fn read(text: &[u8]) -> Result<Version<'_>, Refusal> {
-    read_by(ffi::knappulf_read, text).map(|(_, version)| version)
+    let mut version = Version::blank(text);
+    read_by(ffi::knappulf_read, &mut version)?;
+    Ok(version)
 }
 
 /// Reads a version that a wildcard `.*` may follow, and says whether it does.
@@ -83,7 +86,9 @@ pub fn read(text: &[u8]) -> Result<Version<'_>, Refusal> {
 /// assert_eq!((version.release(), wildcard), (&[1, 2][..], true));
 /// ```
 pub fn pattern(text: &[u8]) -> Result<(Version<'_>, bool), Refusal> {
-    read_by(ffi::knappulf_pattern, text).map(|(wildcard, version)| (version, wildcard != 0))
+    let mut version = Version::blank(text);
+    let wildcard = read_by(ffi::knappulf_pattern, &mut version)?;
+    Ok((version, wildcard != 0))
 }
 
 /// The text segment of a version's label with that index, as a part of the text: empty for a number, a missing

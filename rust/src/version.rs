@@ -16,8 +16,8 @@ use core::fmt;
 /// ```
 #[derive(Clone, Copy)]
 pub struct Version<'a> {
-    text: &'a [u8],
-    fields: Fields,
+    pub(crate) text: &'a [u8],
+    pub(crate) fields: Fields,
 }
 
 /// The kind of a pre-release.
@@ -40,8 +40,9 @@ fn part(there: u64, number: u64) -> Option<u64> {
 }
 
 impl<'a> Version<'a> {
-    pub(crate) fn new(text: &'a [u8], fields: Fields) -> Self {
-        Version { text, fields }
+    /// No fields yet: the text is still to be read.
+    pub(crate) fn blank(text: &'a [u8]) -> Self {
+        Version { text, fields: Fields::default() }
     }
 
     pub fn epoch(&self) -> u64 {

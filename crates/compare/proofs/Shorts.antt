@@ -19,7 +19,7 @@ use Rattle.reading.specs.declared.short.ShortReading.{ShortReading}
 use Rattle.reading.specs.Short.{Filled, FilledShort, shortOf, wholeVersion}
 use Rattle.reading.specs.Reading.{accepted, patternAs, versionOf}
 use Rattle.reading.specs.Value.{valueOf, listed}
-use Rattle.reading.proofs.ShortRead.{short-read}
+use Rattle.reading.proofs.ShortRead.{short-said}
 use Rattle.compare.specs.declared.text.Compared.{Compared}
 use Rattle.compare.specs.Versions.{compareRelease, compareKey, comparePublic, compareValues}
 use Rattle.compare.specs.declared.key.Key.{Key}
@@ -87,10 +87,6 @@ unfolding compareShorts
 shorts-by-key v w r q a b e f g h k = undecided r q (compareNumbers v w) _ e f (rw (← g, ← h) k)
 
 -- two texts that say short versions
-said : (s : List ℕ) (r : ShortReading) → r ≡ shortOf s → not (r .found) ≡ false → patternAs false s ≡ accepted false (wholeVersion (r .short))
-said s r e x =
-    short-read false s (ap (λ q. q .found) (sym e) ∙ not-false (r .found) x) ∙ ap (λ q. accepted false (wholeVersion (q .short))) (sym e)
-
 pub both-short : (s t : List ℕ) (one other : ShortReading) (r : Order) (q : Compared) → one ≡ shortOf s → other ≡ shortOf t →
     not (one .found) ≡ false → not (other .found) ≡ false → FilledShort (one .short) → FilledShort (other .short) →
     r ≡ nameOf (compareShorts (one .short) (other .short)) → q ≡ answered r → q ≡ compared s t
@@ -98,4 +94,4 @@ unfolding compared versionOf compareValues valueOf listed
 both-short s t one other r q e f x y a b g h =
     let public : comparePublic (valueOf s (wholeVersion (one .short))) (valueOf t (wholeVersion (other .short))) ≡ compareShorts (one .short) (other .short) =
     sym (shorts-compare (one .short) (other .short) a b ∙ label-blind s t (wholeVersion (one .short)) (wholeVersion (other .short))) in
-    rw (said s one e x, said t other f y, public, also-eq (compareShorts (one .short) (other .short)), ← g) h
+    rw (short-said false s one e (not-false (one .found) x), short-said false t other f (not-false (other .found) y), public, also-eq (compareShorts (one .short) (other .short)), ← g) h

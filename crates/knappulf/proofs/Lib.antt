@@ -1,4 +1,5 @@
 pub mod Rows
+pub mod Shorts
 pub mod Segments
 pub mod Tells
 pub mod Words

@@ -7,11 +7,14 @@ use reading::fields::Span;
 use reading::fields::Version;
 use reading::segment::segment_bytes;
 use reading::segment::segment_of;
+use reading::short::Short;
 use reading::text::Verdict;
 ghost use mathlib.Core.Path.{_≡_};
+ghost use mathlib.Core.List.{[]};
 ghost use Prim.Native.Nat.{_+_, _≤_};
 ghost use lib.ListN.{length};
 ghost use lib.Seq.{sets};
+ghost use Rattle.reading.specs.Short.{wholeVersion};
 ghost use Rattle.knappulf.specs.Fields.{spanAt, parts, segmentRow, segmentRows, fieldsOf, fieldsBy};
 
 // Writes the numbers from a place on.
@@ -98,6 +101,35 @@ fn put_fields(fields: &mut [u64; 89], text: &[u8], version: Version)
     put_parts(fields, version);
     put_numbers(fields, 9, &numbers);
     put_segments(fields, 25, text, local);
+}
+
+// All the fields of a short version: what it has not is 0.
+pub(crate) fn put_short(fields: &mut [u64; 89], short: Short)
+    ensures { λ _. ⌜ now (fields .exit) ≡ fieldsOf [] (wholeVersion short) ⌝ }
+{
+    let pre_field = short.pre;
+    let post_field = short.post;
+    let dev_field = short.dev;
+    let pre = pre_pair(pre_field);
+    let post = part_pair(post_field);
+    let dev = part_pair(dev_field);
+    let numbers = [
+        0,
+        pre.kind,
+        pre.number,
+        post.kind,
+        post.number,
+        dev.kind,
+        dev.number,
+        short.count as u64,
+        0,
+        short.first,
+        short.second,
+        short.third,
+        short.fourth,
+    ];
+    *fields = [0; 89];
+    put_numbers(fields, 0, &numbers)
 }
 
 // A refused text leaves the lent numbers as they were.

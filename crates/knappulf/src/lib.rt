@@ -4,6 +4,7 @@ pub mod pair;
 pub mod said;
 
 use crate::fields::put_accepted;
+use crate::fields::put_short;
 use crate::fields::span_at;
 use crate::said::of_accepts;
 use crate::said::of_checked;
@@ -16,6 +17,8 @@ use crate::said::tell;
 use reading::segment::Segment;
 use reading::segment::segment_bytes;
 use reading::segment::segment_of;
+use reading::short::read_short;
+use reading::text::Verdict;
 ghost use mathlib.Core.Path.{_≡_};
 ghost use mathlib.Core.Bool.{false};
 ghost use lib.ListN.{length};
@@ -37,6 +40,12 @@ pub extern "C" fn knappulf_read(text: &[u8], fields: &mut [u64; 89], answer: &mu
     ensures { λ r. ⌜ Told (ofVerdict (versionOf (now (text .entry)) .verdict) false) (now (answer .exit)) r ⌝ }
     ensures { λ _. ⌜ now (fields .exit) ≡ fieldsBy (versionOf (now (text .entry)) .verdict) (now (text .entry)) (versionOf (now (text .entry)) .version) (now (fields .entry)) ⌝ }
 {
+    let quick = read_short(text);
+    if quick.found {
+        let short = quick.short;
+        put_short(fields, short);
+        return tell(of_verdict(Verdict::Accepted, false), answer);
+    }
     let read = version::read(text);
     let verdict = read.verdict;
     let version = read.version;
@@ -50,6 +59,12 @@ pub extern "C" fn knappulf_pattern(text: &[u8], fields: &mut [u64; 89], answer: 
     ensures { λ r. ⌜ Told (ofVerdict (patternOf (now (text .entry)) .verdict) (patternOf (now (text .entry)) .wildcard)) (now (answer .exit)) r ⌝ }
     ensures { λ _. ⌜ now (fields .exit) ≡ fieldsBy (patternOf (now (text .entry)) .verdict) (now (text .entry)) (patternOf (now (text .entry)) .version) (now (fields .entry)) ⌝ }
 {
+    let quick = read_short(text);
+    if quick.found {
+        let short = quick.short;
+        put_short(fields, short);
+        return tell(of_verdict(Verdict::Accepted, false), answer);
+    }
     let read = version::pattern(text);
     let verdict = read.verdict;
     let version = read.version;

@@ -242,10 +242,14 @@ short-read wildcards s = by-length (ltb 1024 (length s))
     by-length true k = absurd (true≢false (sym k))
     by-length false k = by-count (eqb (shortHeadOf s .count) 0) refl k
 
--- the way of `read_as` for the short reading r, whose fields are v
+-- the same of a reading r that a call gave
+pub short-said : (wildcards : Bool) (s : List ℕ) (r : ShortReading) → r ≡ shortOf s → r .found ≡ true → patternAs wildcards s ≡ accepted false (wholeVersion (r .short))
+short-said wildcards s r e k = rw e (short-read wildcards s (rw e at k))
+
+-- the way of `read_as`, where v are the fields
 module _ (wildcards : Bool) (s : List ℕ) (r : ShortReading) (v : Version) (e : v ≡ wholeVersion (r .short)) where
   pub as-short : r ≡ shortOf s → r .found ≡ true → accepted false v ≡ patternAs wildcards s
-  as-short f k = rw e (rw f (sym (short-read wildcards s (rw f at k))))
+  as-short f k = rw e (sym (short-said wildcards s r f k))
 
   pub whole-few : r .short .count ≤ 4 → v .release .len ≤ 16
   whole-few h = rw e (omega arith)

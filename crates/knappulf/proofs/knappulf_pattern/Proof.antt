@@ -1,6 +1,7 @@
 -- `knappulf::knappulf_pattern` meets its contract: the verdict is told, and decides on the fields.
 -- Assumes nothing.
 use borrow.Author.Needs.{needs}
+use Rattle.knappulf.proofs.Shorts.{short-pattern, told-pattern}
 use Rattle.knappulf.proofs.Tells.{told-as}
 use Rattle.knappulf.proofs.knappulf_pattern.Statement.{statement}
 use Rattle.knappulf.proofs.knappulf_pattern.Tie as tie
@@ -13,4 +14,9 @@ knappulf-pattern-spec =
     (λ c κs. search needs)
     (λ c κs. search needs)
     (λ c κs. search needs)
-    (λ c. (told-as (c .tell .ensures) cc, cc)))
+    (λ c. (told-as (c .tell .ensures) (search told-pattern), search short-pattern))
+    (λ c κs. search needs)
+    (λ c κs. search needs)
+    (λ c κs. search needs)
+    (λ c κs. search needs)
+    (λ c. (told-as (c .tell2 .ensures) cc, cc)))

@@ -1,6 +1,7 @@
 -- `knappulf::knappulf_read` meets its contract: the verdict is told, and decides on the fields.
 -- Assumes nothing.
 use borrow.Author.Needs.{needs}
+use Rattle.knappulf.proofs.Shorts.{short-version, told-version}
 use Rattle.knappulf.proofs.Tells.{told-as}
 use Rattle.knappulf.proofs.knappulf_read.Statement.{statement}
 use Rattle.knappulf.proofs.knappulf_read.Tie as tie
@@ -13,4 +14,9 @@ knappulf-read-spec =
     (λ c κs. search needs)
     (λ c κs. search needs)
     (λ c κs. search needs)
-    (λ c. (told-as (c .tell .ensures) cc, cc)))
+    (λ c. (told-as (c .tell .ensures) (search told-version), search short-version))
+    (λ c κs. search needs)
+    (λ c κs. search needs)
+    (λ c κs. search needs)
+    (λ c κs. search needs)
+    (λ c. (told-as (c .tell2 .ensures) cc, cc)))
