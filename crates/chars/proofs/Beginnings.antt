@@ -1,9 +1,9 @@
--- Laws of beginnings and spellings: one step of the comparison, and what a beginning's length says of a choice.
+-- Laws of lower case, beginnings and spellings: one step of the comparison, and what a beginning's length says of a choice.
 -- Assumes nothing.
-use mathlib.Core.Path.{_≡_, refl, _∙_, sym}
+use mathlib.Core.Path.{_≡_, refl, _∙_, sym, ap}
 use mathlib.Core.Bool.{Bool, true, false}
 use mathlib.Core.List.{List, [], _∷_}
-use Prim.Native.Nat.{ℕ, _+_, _≤_, _<_}
+use Prim.Native.Nat.{ℕ, suc, _+_, _≤_, _<_}
 use native.Mathlib.Numerals.{add-one}
 use native.Mathlib.Omega.{arith}
 use lib.ListN.{length, getD, drop, drop-of-length-le}
@@ -15,7 +15,7 @@ use Rattle.chars.specs.declared.spelling.PreSpelling.{PreSpelling}
 use Rattle.chars.specs.declared.spelling.PreSpelling.the-variants.{Found as PreFound}
 use Rattle.chars.specs.declared.spelling.Spelling.{Spelling}
 use Rattle.chars.specs.declared.spelling.Spelling.the-variants.{Found}
-use Rattle.chars.specs.Case.{lowerOf, startsWith, beginningOf}
+use Rattle.chars.specs.Case.{lowerOf, lowered, startsWith, beginningOf}
 
 -- the ways of `lower`
 module _ (b : ℕ) where
@@ -30,6 +30,11 @@ module _ (b : ℕ) where
   pub lower-capital : 65 ≤ b → b ≤ 90 → b + 32 ≡ lowerOf b
   unfolding lowerOf
   lower-capital h g = rw (le-leb 65 b h, le-leb b 90 g)
+
+pub lowered-length : (s : List ℕ) → length (lowered s) ≡ length s
+unfolding lowered
+lowered-length [] = refl
+lowered-length (b ∷ s) = ap suc (lowered-length s)
 
 -- the ways of `beginning`, at place i of both texts and the text's byte r there in lower case
 module _ (w s : List ℕ) (i r : ℕ) (same : startsWith (drop i w) (drop i s) ≡ startsWith w s) where

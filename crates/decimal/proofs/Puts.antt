@@ -47,6 +47,10 @@ nothing l i h g = record { bytes = refl; moved = omega arith; size = omega arith
 pub byte-out : (l : List ℕ) (i b j : ℕ) → length l ≤ i → length l ≤ farthest → j ≡ onward i 1 → Wrote l i (b ∷ []) l j
 byte-out l i b j h g e = record { bytes = sym (set-out l i b h); moved = e; size = g }
 
+-- nor does a whole text
+pub all-out : (l text : List ℕ) (i j : ℕ) → length l ≤ i → length l ≤ farthest → j ≡ onward i (length text) → Wrote l i text l j
+all-out l text i j h g e = record { bytes = sym (sets-past text l i h); moved = e; size = g }
+
 pub then : {a b c s t : List ℕ} {i j k : ℕ} → Wrote a i s b j → Wrote b j t c k → Wrote a i (s ++ t) c k
 then {a} {b} {c} {s} {t} {i} {j} {k} p q = record {
   bytes = q .bytes ∙ (rw (p .bytes, p .moved) (follow s t a i (p .size)));

@@ -12,6 +12,10 @@ farthest = 2 ^ 64 - 1
 abbrev pub onward : ℕ → ℕ → ℕ
 onward at n = min (at + n) farthest
 
+pub record Further (at n r : ℕ) : Type 0 where
+  pub is : r ≡ onward at n
+  pub near : r ≤ at + n
+
 -- `new` is `old` with the text stored from `at` on, as far as it has room, and `next` is the place behind the text
 pub record Wrote (old : List ℕ) (at : ℕ) (text new : List ℕ) (next : ℕ) : Type 0 where
   pub bytes : new ≡ sets old at text

@@ -3,7 +3,7 @@
 ghost use mathlib.Core.List.{[], _∷_};
 ghost use lib.ListN.{length};
 ghost use Rattle.decimal.specs.Digits.{decimal};
-ghost use Rattle.decimal.specs.Put.{Put};
+ghost use Rattle.decimal.specs.Put.{Further, Put};
 
 // The only function that stores. The last place that 64 bits can say stands for all behind it.
 pub fn put_byte(buf: &mut [u8], at: usize, b: u8) -> usize
@@ -17,6 +17,16 @@ pub fn put_byte(buf: &mut [u8], at: usize, b: u8) -> usize
         return at;
     }
     at + 1
+}
+
+// The place so many bytes further on.
+pub fn further(at: usize, n: usize) -> usize
+    ensures { λ r. ⌜ Further at n r ⌝ }
+{
+    if usize::MAX - at < n {
+        return usize::MAX;
+    }
+    at + n
 }
 
 pub fn put_bytes(buf: &mut [u8], at: usize, s: &[u8]) -> usize

@@ -14,8 +14,9 @@ use Rattle.chars.specs.Text.{ascii}
 use Rattle.chars.specs.Case.{lowerOf, lowered}
 use Rattle.chars.specs.declared.spelling.PreKind.{PreKind}
 use Rattle.decimal.specs.Digits.{decimal}
-use Rattle.decimal.specs.Put.{Wrote}
-use Rattle.decimal.proofs.Puts.{nothing, then, retext}
+use Rattle.chars.proofs.Beginnings.{lowered-length}
+use Rattle.decimal.specs.Put.{farthest, onward, Wrote}
+use Rattle.decimal.proofs.Puts.{nothing, all-out, then, retext}
 use Rattle.reading.specs.declared.fields.Pre.{Pre}
 use Rattle.reading.specs.declared.fields.Pre.the-variants.{Absent as NoPre, Is as IsPre}
 use Rattle.reading.specs.declared.fields.Part.{Part}
@@ -75,6 +76,10 @@ lowered-append : (s t : List ℕ) → lowered (s ++ t) ≡ lowered s ++ lowered 
 unfolding lowered
 lowered-append [] t = refl
 lowered-append (b ∷ s) t = ap (λ (l : List ℕ). lowerOf b ∷ l) (lowered-append s t)
+
+-- nothing has room
+pub lower-out : (s old : List ℕ) (at j : ℕ) → length old ≤ at → length old ≤ farthest → j ≡ onward at (length s) → Wrote old at (lowered s) old j
+lower-out s old at j h g e = all-out old (lowered s) at j h g (rw (lowered-length s) e)
 
 pub lower-next : (s old b c : List ℕ) (at i j k r : ℕ) → Wrote old at (lowered (take i s)) b j → i < length s → r ≡ lowerOf (getD s i 0) →
     Wrote b j (r ∷ []) c k → Wrote old at (lowered (take (i + 1) s)) c k

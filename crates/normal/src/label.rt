@@ -1,6 +1,7 @@
 // The local label of a normal text.
 use crate::numbers::held;
 use chars::case::lower;
+use decimal::put::further;
 use decimal::put::put_byte;
 use decimal::put::put_number;
 use reading::fields::Local;
@@ -13,7 +14,7 @@ ghost use Rattle.chars.specs.Case.{lowered};
 ghost use Rattle.decimal.specs.Put.{Put};
 ghost use Rattle.normal.specs.Normal.{segmentText, labelText};
 
-pub fn put_lower(buf: &mut [u8], at: usize, s: &[u8]) -> usize
+fn store_lower(buf: &mut [u8], at: usize, s: &[u8]) -> usize
     ensures { λ r. ⌜ Put (length (now (s .entry))) (now (buf .entry)) at (lowered (now (s .entry))) (now (buf .exit)) r ⌝ }
 {
     let mut next = at;
@@ -23,6 +24,16 @@ pub fn put_lower(buf: &mut [u8], at: usize, s: &[u8]) -> usize
         i += 1;
     }
     next
+}
+
+// Behind the end nothing has room: so it is in each run that only asks for the length.
+pub fn put_lower(buf: &mut [u8], at: usize, s: &[u8]) -> usize
+    ensures { λ r. ⌜ Put (length (now (s .entry))) (now (buf .entry)) at (lowered (now (s .entry))) (now (buf .exit)) r ⌝ }
+{
+    if buf.len() <= at {
+        return further(at, s.len());
+    }
+    store_lower(buf, at, s)
 }
 
 // A number without zeros in front, or text in lower case.

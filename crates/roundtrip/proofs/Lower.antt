@@ -11,7 +11,7 @@ use borrow.Author.Tests.{leb-true, leb-false, le-leb, lt-leb}
 use Rattle.order.specs.All.{All}
 use Rattle.chars.specs.Class.{classOf, digit, letter, between, front}
 use Rattle.chars.specs.Case.{lowerOf, lowered}
-use Rattle.chars.proofs.Beginnings.{lower-under, lower-over, lower-capital}
+use Rattle.chars.proofs.Beginnings.{lower-under, lower-over, lower-capital, lowered-length}
 use Rattle.decimal.specs.Parse.{digitOf, valueFrom, numberOf}
 use Rattle.decimal.proofs.Values.{digit-over}
 use Rattle.reading.specs.Segment.{segmentOf}
@@ -51,11 +51,6 @@ lower-digit b =
 
 lower-twice : (b : ℕ) → lowerOf (lowerOf b) ≡ lowerOf b
 lower-twice b = by-case (λ r. lowerOf r ≡ r) b (λ e. sym e) (λ h g. sym (lower-over (b + 32) (omega arith) (omega arith)))
-
-pub lowered-length : (s : List ℕ) → length (lowered s) ≡ length s
-unfolding lowered
-lowered-length [] = refl
-lowered-length (b ∷ s) = ap suc (lowered-length s)
 
 pub lowered-twice : (s : List ℕ) → lowered (lowered s) ≡ lowered s
 unfolding lowered

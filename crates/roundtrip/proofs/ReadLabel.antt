@@ -12,6 +12,7 @@ use borrow.Author.Tests.{eqb-false, ltb-true}
 use Rattle.order.specs.All.{All}
 use Rattle.order.proofs.Elements.{all-append}
 use Rattle.chars.specs.Class.{digit, letter, between, front}
+use Rattle.chars.proofs.Beginnings.{lowered-length}
 use Rattle.decimal.specs.Digits.{decimal}
 use Rattle.decimal.specs.Parse.{valueFrom, numberOf, digitsOf}
 use Rattle.reading.specs.declared.fields.Local.{Local}
@@ -28,7 +29,7 @@ use Rattle.roundtrip.specs.Readable.{Fits, IsSegment, LabelFits}
 use Rattle.roundtrip.proofs.Numbers.{no-fewer}
 use Rattle.roundtrip.proofs.Fields.{segmentsOf, pushed-segment, all-map}
 use Rattle.roundtrip.proofs.Lengths.{dotted-snoc}
-use Rattle.roundtrip.proofs.Lower.{lowered-length, lowered-twice, lowered-says, lowered-segment}
+use Rattle.roundtrip.proofs.Lower.{lowered-twice, lowered-says, lowered-segment}
 use Rattle.roundtrip.proofs.ReadPlaces.{by-pick, run-within, byte-within, separator-onward}
 
 run-all : (p : ℕ → Bool) (s : List ℕ) → All (λ b. p b ≡ true) (take (front p s) s)
