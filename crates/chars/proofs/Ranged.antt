@@ -29,11 +29,11 @@ abbrev pub byRanges : ℕ → ℕ
 byRanges b =
     pick (ltb b (code "0")) (lowRanged b)
     (pick (leb b (code "9")) digit
+    (pick (ltb (code "z") b) other
+    (pick (leb (code "a") b) letter
     (pick (ltb b (code "A")) other
     (pick (leb b (code "Z")) letter
     (pick (eqb b (code "_")) separator
-    (pick (ltb b (code "a")) other
-    (pick (leb b (code "z")) letter
     other))))))
 
 same : ℕ → ℕ → Bool

@@ -291,6 +291,12 @@ pub fn ranged(b: u8) -> u8
     if b <= b'9' {
         return DIGIT;
     }
+    if b'z' < b {
+        return OTHER;
+    }
+    if b'a' <= b {
+        return LETTER;
+    }
     if b < b'A' {
         return OTHER;
     }
@@ -299,12 +305,6 @@ pub fn ranged(b: u8) -> u8
     }
     if b == b'_' {
         return SEPARATOR;
-    }
-    if b < b'a' {
-        return OTHER;
-    }
-    if b <= b'z' {
-        return LETTER;
     }
     OTHER
 }

@@ -4,21 +4,22 @@ use mathlib.Core.Path.{_≡_, refl, _∙_, sym}
 use mathlib.Core.Bool.{Bool, true, false}
 use mathlib.Core.List.{List, [], _∷_}
 use Prim.Native.Nat.{ℕ, suc, _+_, _*_, _-_, _^_, _≤_, _<_}
-use native.Mathlib.Nat.{le-trans, le-refl}
+use native.Mathlib.Nat.{le-trans, le-refl, zero-add}
 use native.Mathlib.Numerals.{add-one}
 use native.Mathlib.Omega.{arith}
 use lib.Dec.{leb, eqb}
 use lib.ListN.{length, getD, drop, take, drop-of-length-le}
 use lib.Seq.{drop-cons}
-use borrow.Author.Tests.{le-leb, lt-leb, lt-ltb, le-ltb, leb-true, leb-false}
+use borrow.Author.Tests.{le-leb, lt-leb, lt-ltb, le-ltb, leb-true, leb-false, eqb-true, eq-eqb, ne-eqb}
 use Rattle.chars.specs.Class.{classOf, digit, between, front}
 use Rattle.chars.specs.Pick.{pick}
+use Rattle.chars.proofs.Classes.{run-stop, run-step}
 use Rattle.chars.proofs.Cases.{no-eq, yes-is}
 use Rattle.decimal.specs.declared.parse.Number.{Number}
 use Rattle.decimal.specs.declared.parse.Number.the-variants.{Value, TooBig}
 use Rattle.decimal.specs.declared.parse.Leading.{Leading}
 use Rattle.decimal.specs.declared.parse.Leading.the-variants.{Absent, Read, TooBig as LeadingTooBig}
-use Rattle.decimal.specs.Parse.{digitOf, valueFrom, numberOf, digitsOf, counted, leadingOf, leadingLength}
+use Rattle.decimal.specs.Parse.{digitOf, valueFrom, numberOf, digitsOf, isZero, counted, leadingOf, leadingLength}
 
 -- the ways of `digit`
 module _ (b : ℕ) where
@@ -119,6 +120,41 @@ all-read s n v e f h = rw (← e, e, ← f, lt-ltb _ _ h)
 pub lead-none : (s : List ℕ) (n : ℕ) → n ≡ digitsOf s → n ≡ 0 → Absent ≡ leadingOf s
 unfolding leadingOf
 lead-none s n e z = yes-is 0 _ e z refl
+
+-- zeros in front of a number: how many digits there are, and their value
+zeros-count : (s : List ℕ) → front isZero s + digitsOf (drop (front isZero s) s) ≡ digitsOf s
+unfolding front between classOf
+zeros-count [] = refl
+zeros-count (b ∷ s) = go (eqb b 48) refl (zeros-count s)
+  where
+    go : (t : Bool) → eqb b 48 ≡ t → front isZero s + digitsOf (drop (front isZero s) s) ≡ digitsOf s → front isZero (b ∷ s) + digitsOf (drop (front isZero (b ∷ s)) (b ∷ s)) ≡ digitsOf (b ∷ s)
+    go true e later = rw (eqb-true b 48 e) (omega (arith, later))
+    go false e later = rw e (zero-add _)
+
+zeros-value : (s : List ℕ) → leadingFrom 0 (drop (front isZero s) s) ≡ leadingFrom 0 s
+unfolding front between classOf valueFrom digitOf
+zeros-value [] = refl
+zeros-value (b ∷ s) = go (eqb b 48) refl (zeros-value s)
+  where
+    go : (t : Bool) → eqb b 48 ≡ t → leadingFrom 0 (drop (front isZero s) s) ≡ leadingFrom 0 s → leadingFrom 0 (drop (front isZero (b ∷ s)) (b ∷ s)) ≡ leadingFrom 0 (b ∷ s)
+    go true e later = rw (eqb-true b 48 e) later
+    go false e later = rw e
+
+-- the ways of `leading_zeros`, at place i
+module _ (s : List ℕ) (i : ℕ) (same : i + front isZero (drop i s) ≡ front isZero s) where
+  pub zeros-stop : i < length s → (getD s i 0 ≡ 48 → ⊥) → i ≡ front isZero s
+  zeros-stop h e = sym (run-stop isZero s i h (ne-eqb _ 48 e)) ∙ same
+
+  pub zeros-on : i < length s → getD s i 0 ≡ 48 → i + 1 + front isZero (drop (i + 1) s) ≡ front isZero s
+  zeros-on h e = run-step isZero s i h (eq-eqb _ 48 e) ∙ same
+
+-- the start of `leading_number`, behind n zeros
+module _ (s : List ℕ) (n : ℕ) (e : n ≡ front isZero s) where
+  pub lead-count : n + digitsOf (drop n s) ≡ digitsOf s
+  lead-count = rw e (zeros-count s)
+
+  pub lead-start : leadingFrom 0 (drop n s) ≡ leadingFrom 0 s
+  lead-start = rw e (zeros-value s)
 
 -- the ways of `leading_number`, at place i with the value v of the digits before it, and r the class of the byte there
 module _ (s : List ℕ) (v i : ℕ) (same : i + digitsOf (drop i s) ≡ digitsOf s) (value : leadingFrom v (drop i s) ≡ leadingFrom 0 s) where

@@ -1,5 +1,6 @@
 -- The number that decimal digits write, and the number at the front of a text.
 use mathlib.Core.Path.{_≡_}
+use mathlib.Core.Bool.{Bool}
 use mathlib.Core.List.{List, [], _∷_}
 use Prim.Native.Nat.{ℕ, _+_, _-_, _*_, _^_, _≤_}
 use Prim.Native.Char.{code}
@@ -36,6 +37,9 @@ digitsOf s = front (between digit digit) s
 abbrev pub sized : ℕ → Number → Leading
 sized len (Value n) = Read n len
 sized len TooBig = LeadingTooBig
+
+abbrev pub isZero : ℕ → Bool
+isZero b = eqb b (code "0")
 
 -- so many digits with their value; none where there is no digit
 abbrev pub counted : ℕ → ℕ → Leading

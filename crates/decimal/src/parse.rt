@@ -3,7 +3,8 @@ use chars::class;
 ghost use mathlib.Core.Path.{_≡_};
 ghost use Prim.Native.Nat.{_+_, _*_, _^_, _≤_};
 ghost use lib.Dec.{leb};
-ghost use Rattle.decimal.specs.Parse.{Digit, Led, numberOf, counted};
+ghost use Rattle.chars.specs.Class.{Counted};
+ghost use Rattle.decimal.specs.Parse.{isZero, Digit, Led, numberOf, counted};
 
 pub enum Number {
     Value(u64),
@@ -74,11 +75,25 @@ fn counted(value: u64, count: usize) -> Leading
     Leading::Read(value, count)
 }
 
+// How many zeros stand in front. They add nothing, and there may be many.
+fn leading_zeros(rest: &[u8]) -> usize
+    ensures { λ r. ⌜ Counted isZero (now (rest .entry)) r ⌝ }
+{
+    let mut i = 0;
+    while i < rest.len() {
+        if rest[i] != b'0' {
+            return i;
+        }
+        i += 1;
+    }
+    i
+}
+
 pub fn leading_number(rest: &[u8]) -> Leading
     ensures { λ r. ⌜ Led (now (rest .entry)) r ⌝ }
 {
     let mut total: u64 = 0;
-    let mut i = 0;
+    let mut i = leading_zeros(rest);
     while i < rest.len() {
         let b = rest[i];
         if class::ranged(b) != class::DIGIT {

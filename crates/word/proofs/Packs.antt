@@ -1,6 +1,6 @@
 -- The ways of the functions that answer a word.
 -- Assumes nothing.
-use mathlib.Core.Path.{_≡_, refl, sym}
+use mathlib.Core.Path.{_≡_, refl, sym, ap, _∙_}
 use mathlib.Core.Bool.{Bool, true, false}
 use mathlib.Core.List.{List, []}
 use mathlib.Core.Option.{Option}
@@ -17,7 +17,10 @@ use Rattle.reading.specs.declared.fields.Part.{Part}
 use Rattle.reading.specs.declared.fields.Version.{Version}
 use Rattle.reading.specs.declared.text.Reading.{Reading}
 use Rattle.reading.specs.declared.text.Verdict.the-variants.{Accepted, Refused as NotRead}
-use Rattle.reading.specs.Reading.{versionOf}
+use Rattle.reading.specs.Reading.{accepted, patternAs, versionOf}
+use Rattle.reading.specs.declared.short.ShortReading.{ShortReading}
+use Rattle.reading.specs.Short.{shortOf, wholeVersion}
+use Rattle.reading.proofs.ShortRead.{short-said}
 use Rattle.reading.specs.Value.{Label, listed, valueOf}
 use Rattle.compare.specs.Key.{kindOf}
 use Rattle.word.specs.declared.small.Fitted.{Fitted}
@@ -119,3 +122,10 @@ module _ (s : List ℕ) (read : Reading) (d : read ≡ versionOf s) where
   pub text-read : (r : Worded) → read .verdict ≡ Accepted → r ≡ worded (valueOf [] (read .version)) → r ≡ wordAnswer s
   unfolding wordAnswer
   text-read r e f = rw (← d, e, ← worded-blind s (read .version)) f
+
+-- a text that says a short version, whose fields are v
+pub text-short : (s : List ℕ) (q : ShortReading) (v : Version) (r : Worded) → q ≡ shortOf s → q .found ≡ true → v ≡ wholeVersion (q .short) → r ≡ worded (valueOf [] v) → r ≡ wordAnswer s
+unfolding wordAnswer versionOf
+text-short s q v r e f g h =
+    let said : patternAs false s ≡ accepted false v = short-said false s q e f ∙ ap (accepted false) (sym g) in
+    rw (said, ← worded-blind s v) h

@@ -1,8 +1,7 @@
 -- `decimal::parse::leading_number` meets its contract: the digits from here on are the rest of all.
 -- Assumes nothing.
-use mathlib.Core.Path.{_≡_, refl}
+use mathlib.Core.Path.{_≡_}
 use Prim.Native.Nat.{_+_, _*_, _-_, _^_, _<_, _≤_}
-use native.Mathlib.Nat.{zero-add}
 use borrow.Author.Needs.{needs}
 use lib.ListN.{length, drop}
 use Rattle.decimal.specs.Parse.{digitsOf}
@@ -12,6 +11,8 @@ use Rattle.decimal.proofs.Values.{
   product-fits,
   leadingFrom,
   counted-within,
+  lead-count,
+  lead-start,
   lead-stop,
   lead-past,
   lead-same,
@@ -37,7 +38,8 @@ leading-number-spec =
     (tie.spec
     Inv-loop
     μ-loop
-    (λ c. (search needs, search needs, zero-add _, refl))
+    (λ c κs. search needs)
+    (λ c. (search needs, search needs, search lead-count, search lead-start))
     (λ c. search needs)
     (λ c κs. search needs)
     (λ c κs. search needs)

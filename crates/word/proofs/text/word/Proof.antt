@@ -1,7 +1,7 @@
 -- `word::text::word` meets its contract: one law for each way out.
 -- Assumes nothing.
 use borrow.Author.Needs.{needs}
-use Rattle.word.proofs.Packs.{text-refused, text-read}
+use Rattle.word.proofs.Packs.{text-refused, text-read, text-short}
 use Rattle.word.proofs.text.word.Statement.{statement}
 use Rattle.word.proofs.text.word.Tie as tie
 
@@ -9,6 +9,10 @@ pub word-spec : {M : Type 1} → statement M
 word-spec =
     tie.close
     (tie.spec
+    (λ c κs. search needs)
+    (λ c κs. search needs)
+    (λ c κs. search needs)
+    (λ c. search text-short)
     (λ c κs. search needs)
     (λ c. search needs)
     (λ c. search text-refused)
