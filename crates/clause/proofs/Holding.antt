@@ -1,13 +1,12 @@
 -- The ways of the functions that say what one clause accepts, and that they need not see labels.
 -- Assumes nothing.
-use mathlib.Core.Path.{_≡_, refl, sym, _∙_}
+use mathlib.Core.Path.{_≡_, refl}
 use mathlib.Core.Bool.{Bool, true, false, not, _&&_}
 use mathlib.Core.List.{List, [], _∷_}
 use Prim.Native.Nat.{ℕ}
 use Rattle.order.specs.Ordering.{Ordering, lt, eq, gt, isLe, isEq, isGe}
 use Rattle.order.specs.Answer.{nameOf}
 use Rattle.order.specs.declared.Order.{Order}
-use Rattle.order.specs.declared.Order.the-variants.{Less, Equal as Same, Greater}
 use Rattle.reading.specs.declared.fields.Version.{Version}
 use Rattle.reading.specs.Value.{Value, valueOf}
 use Rattle.compare.specs.Versions.{compareRelease, comparePublic}
@@ -15,51 +14,24 @@ use Rattle.compare.specs.Prefix.{prefixMatches, shorter}
 use Rattle.clause.specs.declared.operator.Operator.{Operator}
 use Rattle.clause.specs.declared.operator.Operator.the-variants.{Equal, NotEqual, Compatible, AtMost, AtLeast, Below, Above}
 use Rattle.clause.specs.declared.clause.Clause.{Clause}
-use Rattle.clause.specs.Accept.{equals, holds, clauseAccepts, allAccept}
+use Rattle.clause.specs.Accept.{saysAtMost, saysSame, saysAtLeast, equals, holds, clauseAccepts, allAccept}
 
--- a name stands for one answer
-named : (o p : Ordering) → nameOf o ≡ nameOf p → o ≡ p
-named lt lt e = refl
-named lt eq e = cc
-named lt gt e = cc
-named eq lt e = cc
-named eq eq e = refl
-named eq gt e = cc
-named gt lt e = cc
-named gt eq e = cc
-named gt gt e = refl
+-- what the name of an order says
+module _ (r : Order) (q : Bool) where
+  pub by-at-most-name : (o : Ordering) → r ≡ nameOf o → q ≡ saysAtMost r → q ≡ isLe o
+  by-at-most-name lt e f = rw e at f
+  by-at-most-name eq e f = rw e at f
+  by-at-most-name gt e f = rw e at f
 
--- what a comparison's name says
-module _ (r : Order) (o : Ordering) (e : r ≡ nameOf o) where
-  module _ (f : r ≡ Less) where
-    pub less-at-most : true ≡ isLe o
-    less-at-most = rw (named o lt (sym e ∙ f))
+  pub by-same-name : (o : Ordering) → r ≡ nameOf o → q ≡ saysSame r → q ≡ isEq o
+  by-same-name lt e f = rw e at f
+  by-same-name eq e f = rw e at f
+  by-same-name gt e f = rw e at f
 
-    pub less-not-equal : false ≡ isEq o
-    less-not-equal = rw (named o lt (sym e ∙ f))
-
-    pub less-not-at-least : false ≡ isGe o
-    less-not-at-least = rw (named o lt (sym e ∙ f))
-
-  module _ (f : r ≡ Same) where
-    pub same-at-most : true ≡ isLe o
-    same-at-most = rw (named o eq (sym e ∙ f))
-
-    pub same-equal : true ≡ isEq o
-    same-equal = rw (named o eq (sym e ∙ f))
-
-    pub same-at-least : true ≡ isGe o
-    same-at-least = rw (named o eq (sym e ∙ f))
-
-  module _ (f : r ≡ Greater) where
-    pub greater-not-at-most : false ≡ isLe o
-    greater-not-at-most = rw (named o gt (sym e ∙ f))
-
-    pub greater-not-equal : false ≡ isEq o
-    greater-not-equal = rw (named o gt (sym e ∙ f))
-
-    pub greater-at-least : true ≡ isGe o
-    greater-at-least = rw (named o gt (sym e ∙ f))
+  pub by-at-least-name : (o : Ordering) → r ≡ nameOf o → q ≡ saysAtLeast r → q ≡ isGe o
+  by-at-least-name lt e f = rw e at f
+  by-at-least-name eq e f = rw e at f
+  by-at-least-name gt e f = rw e at f
 
 -- `==V`, and with a wildcard `==V.*`
 module _ (wildcard : Bool) (v w : Value) (r : Bool) where

@@ -6,6 +6,8 @@ pub mod Lists
 pub mod Turns
 pub mod Holding
 pub mod Verdicts
+pub mod ShortClauses
+pub mod ShortHolding
 pub mod Faults
 pub mod Rows
 pub mod Exactly

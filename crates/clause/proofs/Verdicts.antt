@@ -19,10 +19,11 @@ use Rattle.reading.specs.declared.text.Verdict.the-variants.{Accepted, Refused}
 use Rattle.reading.specs.Reading.{versionOf}
 use Rattle.reading.specs.Value.{Value, valueOf}
 use Rattle.clause.specs.declared.clause.Clause.{Clause}
+use Rattle.clause.specs.declared.accept.Said.{Said}
 use Rattle.clause.specs.declared.accept.Accepts.{Accepts}
 use Rattle.clause.specs.declared.accept.Accepts.the-variants.{Yes, No, List as OfList, Version as OfVersion}
 use Rattle.clause.specs.List.{Listing, refused, clauses, behind, commaAfter, clauseAt, clausesFrom, listOf}
-use Rattle.clause.specs.Accept.{clauseAccepts, allAccept, yesOrNo, judgedBy, accepted}
+use Rattle.clause.specs.Accept.{clauseAccepts, saying, allAccept, yesOrNo, judgedBy, accepted}
 use Rattle.clause.proofs.accept.Accepts.{the-type}
 use Rattle.clause.proofs.Lists.{say-full, say-refused, say-last, say-more, listed-long, listed-blank, listed-some}
 use Rattle.clause.proofs.Holding.{blind-all}
@@ -61,22 +62,26 @@ module _ (s : List ℕ) (w : Value) (n start : ℕ) (before : Bool) (t : Accepts
   pub accept-full : n ≡ 16 → OfList (refusal 17 start) ≡ t
   accept-full = say-full (told before w) s n start t same
 
-  module _ (end : ℕ) (c : Clause) (few : n ≤ 16) (some : n ≡ 16 → ⊥) (e : end ≡ commaAfter s start) (f : c ≡ clauseAt s start end) where
-    pub accept-refused : (c .refusal ≡ 0 → ⊥) → OfList (refusal (c .refusal) (c .place)) ≡ t
-    accept-refused = say-refused (told before w) s n start t same end c few some e f
+  -- x is what the clause there says
+  module _ (end : ℕ) (x : Said) (few : n ≤ 16) (some : n ≡ 16 → ⊥) (e : end ≡ commaAfter s start) (d : x ≡ saying before (clauseAt s start end) w) where
+    pub accept-refused : (x .refusal ≡ 0 → ⊥) → OfList (refusal (x .refusal) (x .place)) ≡ t
+    accept-refused g = rw d (say-refused (told before w) s n start t same end _ few some e refl (λ q. g (rw d q)))
 
-    -- whether all clauses hold, this one among them
-    module _ (all : Bool) (g : c .refusal ≡ 0) (a : all ≡ before && clauseAccepts c w) where
-      pub accept-last : (q : Accepts) → end ≡ length s → q ≡ yesOrNo all → q ≡ t
+    module _ (g : x .refusal ≡ 0) where
+      none : clauseAt s start end .refusal ≡ 0
+      none = ap (λ y. y .refusal) (sym d) ∙ g
+
+      pub accept-last : (q : Accepts) → end ≡ length s → q ≡ yesOrNo (x .holds) → q ≡ t
       accept-last q h k =
-          let last : all ≡ before && (clauseAccepts c w && true) = rw (and-alone before (clauseAccepts c w)) a in
-          k ∙ (ap yesOrNo last ∙ say-last (told before w) s n start t same end c few some e f g h)
+          let last : x .holds ≡ before && (clauseAccepts (clauseAt s start end) w && true) =
+          rw (and-alone before (clauseAccepts (clauseAt s start end) w)) (ap (λ y. y .holds) d) in
+          k ∙ (ap yesOrNo last ∙ say-last (told before w) s n start t same end _ few some e refl none h)
 
-      pub accept-more : (end ≡ length s → ⊥) → told all w (clausesFrom (16 - (n + 1)) s (end + 1)) ≡ t
+      pub accept-more : (end ≡ length s → ⊥) → told (x .holds) w (clausesFrom (16 - (n + 1)) s (end + 1)) ≡ t
       accept-more h =
-          rw a
-          (sym (told-behind before w c (clausesFrom (16 - (n + 1)) s (end + 1)))
-          ∙ say-more (told before w) s n start t same end c few some e f g h)
+          ap (λ y. told (y .holds) w (clausesFrom (16 - (n + 1)) s (end + 1))) d
+          ∙ (sym (told-behind before w (clauseAt s start end) (clausesFrom (16 - (n + 1)) s (end + 1)))
+          ∙ say-more (told before w) s n start t same end _ few some e refl none h)
 
 -- the ways of `accept_version`
 pub accept-long : (s : List ℕ) (w : Value) → 1024 < length s → OfList (refusal 8 1024) ≡ judgedBy (listOf s) Accepted w

@@ -3,6 +3,8 @@ use mathlib.Core.Bool.{Bool, true, false, not, _&&_}
 use mathlib.Core.List.{List, [], _∷_}
 use Prim.Native.Nat.{ℕ}
 use Rattle.order.specs.Ordering.{isLe, isEq, isGe, isLt, isGt}
+use Rattle.order.specs.declared.Order.{Order}
+use Rattle.order.specs.declared.Order.the-variants.{Less, Equal as Same, Greater}
 use Rattle.answers.specs.declared.Refusal.{Refusal}
 use Rattle.answers.specs.Written.{refusal}
 use Rattle.reading.specs.declared.text.Verdict.{Verdict}
@@ -14,9 +16,26 @@ use Rattle.compare.specs.Prefix.{prefixMatches, shorter}
 use Rattle.clause.specs.declared.operator.Operator.{Operator}
 use Rattle.clause.specs.declared.operator.Operator.the-variants.{Equal, NotEqual, Compatible, AtMost, AtLeast, Below, Above}
 use Rattle.clause.specs.declared.clause.Clause.{Clause}
+use Rattle.clause.specs.declared.accept.Said.{Said}
 use Rattle.clause.specs.declared.accept.Accepts.{Accepts}
 use Rattle.clause.specs.declared.accept.Accepts.the-variants.{Yes, No, List as OfList, Version as OfVersion}
 use Rattle.clause.specs.List.{Listing, refused, clauses, listOf}
+
+-- what the code's name for an order says
+abbrev pub saysAtMost : Order → Bool
+saysAtMost Less = true
+saysAtMost Same = true
+saysAtMost Greater = false
+
+abbrev pub saysSame : Order → Bool
+saysSame Less = false
+saysSame Same = true
+saysSame Greater = false
+
+abbrev pub saysAtLeast : Order → Bool
+saysAtLeast Less = false
+saysAtLeast Same = true
+saysAtLeast Greater = true
 
 -- `==V`: equal in order; `==V.*`: a match
 abbrev pub equals : Bool → Value → Value → Bool
@@ -38,6 +57,10 @@ clauseValue c = valueOf [] (c .version)
 
 abbrev pub clauseAccepts : Clause → Value → Bool
 clauseAccepts c w = holds (c .operator) (c .wildcard) (clauseValue c) w
+
+-- what a clause says of w, where those before it say `before`
+abbrev pub saying : Bool → Clause → Value → Said
+saying before c w = record { refusal = c .refusal; place = c .place; holds = before && clauseAccepts c w }
 
 -- each clause by itself
 abbrev pub allAccept : List Clause → Value → Bool

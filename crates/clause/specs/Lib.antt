@@ -3,4 +3,5 @@ pub mod Trim
 pub mod Clause
 pub mod List
 pub mod Accept
+pub mod Short
 pub mod Refusals

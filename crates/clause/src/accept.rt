@@ -13,8 +13,8 @@ ghost use Prim.Native.Nat.{_≤_};
 ghost use lib.ListN.{length};
 ghost use Rattle.reading.specs.declared.text.Verdict.the-variants.{Accepted};
 ghost use Rattle.reading.specs.Value.{valueOf};
-ghost use Rattle.clause.specs.List.{clausesFrom, listOf};
-ghost use Rattle.clause.specs.Accept.{clauseAccepts, yesOrNo, judgedBy};
+ghost use Rattle.clause.specs.List.{clauseAt, clausesFrom, listOf};
+ghost use Rattle.clause.specs.Accept.{clauseAccepts, saying, yesOrNo, judgedBy};
 
 // What a list says of a version, or which of the two is refused.
 pub enum Accepts {
@@ -24,7 +24,14 @@ pub enum Accepts {
     Version(Refusal),
 }
 
-fn yes_or_no(holds: bool) -> Accepts
+// What one clause says behind others: its refusal, number 0 where there is none, and whether all of them hold so far.
+pub struct Said {
+    pub refusal: u8,
+    pub place: usize,
+    pub holds: bool,
+}
+
+pub(crate) fn yes_or_no(holds: bool) -> Accepts
     ensures { λ r. ⌜ r ≡ yesOrNo holds ⌝ }
 {
     if holds { Accepts::Yes } else { Accepts::No }
@@ -38,6 +45,25 @@ fn all_accept(before: bool, clause: Clause, version: Version) -> bool
         return accepts_clause(clause, version);
     }
     false
+}
+
+pub(crate) fn say_version(
+    list: &[u8],
+    start: usize,
+    end: usize,
+    before: bool,
+    version: Version,
+) -> Said
+    requires { ⌜ (start ≤ end) × (end ≤ length (now list)) × (length (now list) ≤ 1024) ⌝ }
+    ensures { λ r. ⌜ r ≡ saying before (clauseAt (now (list .entry)) start end) (valueOf [] version) ⌝ }
+{
+    let clause = clause_at(list, start, end);
+    let holds = all_accept(before, clause, version);
+    Said {
+        refusal: clause.refusal,
+        place: clause.place,
+        holds,
+    }
 }
 
 // Each clause is read, also behind one that does not hold: a list that is refused further on is refused.
@@ -56,14 +82,14 @@ fn accept_clauses(list: &[u8], version: Version) -> Accepts
             });
         }
         let end = comma_after(list, start);
-        let clause = clause_at(list, start, end);
-        if clause.refusal != 0 {
+        let said = say_version(list, start, end, so_far, version);
+        if said.refusal != 0 {
             return Accepts::List(Refusal {
-                number: clause.refusal,
-                place: clause.place,
+                number: said.refusal,
+                place: said.place,
             });
         }
-        so_far = all_accept(so_far, clause, version);
+        so_far = said.holds;
         count += 1;
         if end == list.len() {
             return yes_or_no(so_far);

@@ -62,7 +62,7 @@ fn stray_wildcard(operator: Operator, wildcard: bool) -> bool
 }
 
 // `~=` drops the last release number, and so wants two.
-fn too_short(operator: Operator, count: usize) -> bool
+pub(crate) fn too_short(operator: Operator, count: usize) -> bool
     ensures { λ r. ⌜ r ≡ tooShort operator count ⌝ }
 {
     match operator {

@@ -9,16 +9,15 @@ use reading::fields::Version;
 ghost use mathlib.Core.Path.{_≡_};
 ghost use mathlib.Core.Bool.{_&&_};
 ghost use mathlib.Core.List.{[]};
-ghost use Rattle.order.specs.Ordering.{isLe, isEq, isGe};
+ghost use Rattle.order.specs.Ordering.{isGe};
 ghost use Rattle.reading.specs.Value.{valueOf};
 ghost use Rattle.compare.specs.Versions.{comparePublic};
 ghost use Rattle.compare.specs.Prefix.{prefixMatches, shorter};
-ghost use Rattle.clause.specs.Accept.{equals, clauseAccepts};
+ghost use Rattle.clause.specs.Accept.{saysAtMost, saysSame, saysAtLeast, equals, clauseAccepts};
 
-fn at_most(w: Version, v: Version) -> bool
-    ensures { λ r. ⌜ r ≡ isLe (comparePublic (valueOf [] w) (valueOf [] v)) ⌝ }
+pub(crate) fn at_most(order: Order) -> bool
+    ensures { λ r. ⌜ r ≡ saysAtMost order ⌝ }
 {
-    let order = compare_public(w, v);
     match order {
         Order::Less => true,
         Order::Equal => true,
@@ -26,10 +25,19 @@ fn at_most(w: Version, v: Version) -> bool
     }
 }
 
-fn at_least(w: Version, v: Version) -> bool
-    ensures { λ r. ⌜ r ≡ isGe (comparePublic (valueOf [] w) (valueOf [] v)) ⌝ }
+pub(crate) fn same(order: Order) -> bool
+    ensures { λ r. ⌜ r ≡ saysSame order ⌝ }
 {
-    let order = compare_public(w, v);
+    match order {
+        Order::Less => false,
+        Order::Equal => true,
+        Order::Greater => false,
+    }
+}
+
+pub(crate) fn at_least(order: Order) -> bool
+    ensures { λ r. ⌜ r ≡ saysAtLeast order ⌝ }
+{
     match order {
         Order::Less => false,
         Order::Equal => true,
@@ -44,19 +52,14 @@ fn equals(wildcard: bool, v: Version, w: Version) -> bool
     if wildcard {
         return matches(v, w);
     }
-    let order = compare_public(w, v);
-    match order {
-        Order::Less => false,
-        Order::Equal => true,
-        Order::Greater => false,
-    }
+    same(compare_public(w, v))
 }
 
 // At least v, and a match without its last release number.
 fn compatible(v: Version, w: Version) -> bool
     ensures { λ r. ⌜ r ≡ isGe (comparePublic (valueOf [] w) (valueOf [] v)) && prefixMatches (shorter (valueOf [] v)) (valueOf [] w) ⌝ }
 {
-    if at_least(w, v) {
+    if at_least(compare_public(w, v)) {
         return matches_shorter(v, w);
     }
     false
@@ -71,9 +74,9 @@ pub(crate) fn accepts_clause(clause: Clause, w: Version) -> bool
         Operator::Equal => equals(clause.wildcard, v, w),
         Operator::NotEqual => !equals(clause.wildcard, v, w),
         Operator::Compatible => compatible(v, w),
-        Operator::AtMost => at_most(w, v),
-        Operator::AtLeast => at_least(w, v),
-        Operator::Below => !at_least(w, v),
-        Operator::Above => !at_most(w, v),
+        Operator::AtMost => at_most(compare_public(w, v)),
+        Operator::AtLeast => at_least(compare_public(w, v)),
+        Operator::Below => !at_least(compare_public(w, v)),
+        Operator::Above => !at_most(compare_public(w, v)),
     }
 }

@@ -1,5 +1,5 @@
-// The operators of clauses, tried in the order of the rules.
-use chars::case::beginning;
+// The operators of clauses, by their bytes.
+use chars::place::byte_at;
 ghost use Rattle.clause.specs.Operator.{Operated, operatorOf, orderOf};
 
 pub enum Operator {
@@ -18,24 +18,25 @@ pub enum OperatorAt {
     Missing,
 }
 
-// `===` is no operator here, and is tried first so that `==` does not take its beginning.
+// `===` is no operator here. A byte past the end is 0, which stands in none.
 pub fn find_operator(rest: &[u8]) -> OperatorAt
     ensures { λ r. ⌜ Operated (now (rest .entry)) (operatorOf (now (rest .entry))) r ⌝ }
 {
-    if beginning(rest, b"===") != 0 {
-        return OperatorAt::Missing;
+    if byte_at(rest, 1) != b'=' {
+        return find_order(rest);
     }
-    let equal = beginning(rest, b"==");
-    if equal != 0 {
-        return OperatorAt::Found(Operator::Equal, equal);
+    let first = byte_at(rest, 0);
+    if first == b'=' {
+        if byte_at(rest, 2) == b'=' {
+            return OperatorAt::Missing;
+        }
+        return OperatorAt::Found(Operator::Equal, 2);
     }
-    let not_equal = beginning(rest, b"!=");
-    if not_equal != 0 {
-        return OperatorAt::Found(Operator::NotEqual, not_equal);
+    if first == b'!' {
+        return OperatorAt::Found(Operator::NotEqual, 2);
     }
-    let compatible = beginning(rest, b"~=");
-    if compatible != 0 {
-        return OperatorAt::Found(Operator::Compatible, compatible);
+    if first == b'~' {
+        return OperatorAt::Found(Operator::Compatible, 2);
     }
     find_order(rest)
 }
@@ -44,21 +45,21 @@ pub fn find_operator(rest: &[u8]) -> OperatorAt
 fn find_order(rest: &[u8]) -> OperatorAt
     ensures { λ r. ⌜ Operated (now (rest .entry)) (orderOf (now (rest .entry))) r ⌝ }
 {
-    let at_most = beginning(rest, b"<=");
-    if at_most != 0 {
-        return OperatorAt::Found(Operator::AtMost, at_most);
+    let first = byte_at(rest, 0);
+    if byte_at(rest, 1) == b'=' {
+        if first == b'<' {
+            return OperatorAt::Found(Operator::AtMost, 2);
+        }
+        if first == b'>' {
+            return OperatorAt::Found(Operator::AtLeast, 2);
+        }
+        return OperatorAt::Missing;
     }
-    let at_least = beginning(rest, b">=");
-    if at_least != 0 {
-        return OperatorAt::Found(Operator::AtLeast, at_least);
+    if first == b'<' {
+        return OperatorAt::Found(Operator::Below, 1);
     }
-    let below = beginning(rest, b"<");
-    if below != 0 {
-        return OperatorAt::Found(Operator::Below, below);
-    }
-    let above = beginning(rest, b">");
-    if above != 0 {
-        return OperatorAt::Found(Operator::Above, above);
+    if first == b'>' {
+        return OperatorAt::Found(Operator::Above, 1);
     }
     OperatorAt::Missing
 }

@@ -1,6 +1,6 @@
--- `clause::accepts` meets its contract: one law for each way out.
+-- `clause::accepts` meets its contract.
 -- Assumes nothing.
-use Rattle.clause.proofs.Verdicts.{list-refused, version-refused, both-accepted}
+use Rattle.clause.proofs.ShortClauses.{short-candidate}
 use borrow.Author.Needs.{needs}
 use Rattle.clause.proofs.accepts.Statement.{statement}
 use Rattle.clause.proofs.accepts.Tie as tie
@@ -12,8 +12,5 @@ accepts-spec =
     (λ c κs. search needs)
     (λ c κs. search needs)
     (λ c. search needs)
-    (λ c. search list-refused)
-    (λ c. search needs)
-    (λ c. search version-refused)
-    (λ c. search needs)
-    (λ c. search both-accepted))
+    (λ c κs. search needs)
+    (λ c. search short-candidate))

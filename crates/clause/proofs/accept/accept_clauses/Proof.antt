@@ -32,7 +32,6 @@ accept-clauses-spec =
     (λ c κs. search needs)
     (λ c κs. search needs)
     (λ c. search accept-refused)
-    (λ c κs. search needs)
     (λ c. search needs)
     (λ c κs. search needs)
     (λ c. search accept-last)

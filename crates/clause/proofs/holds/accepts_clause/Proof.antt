@@ -1,6 +1,6 @@
 -- `clause::holds::accepts_clause` meets its contract: one law for each operator.
 -- Assumes nothing.
-use Rattle.clause.proofs.Holding.{by-equal, by-not-equal, by-compatible, by-at-most, by-at-least, by-below, by-above}
+use Rattle.clause.proofs.Holding.{by-at-most-name, by-at-least-name, by-equal, by-not-equal, by-compatible, by-at-most, by-at-least, by-below, by-above}
 use borrow.Author.Needs.{needs}
 use Rattle.clause.proofs.holds.accepts_clause.Statement.{statement}
 use Rattle.clause.proofs.holds.accepts_clause.Tie as tie
@@ -17,16 +17,20 @@ accepts-clause-spec =
     (λ c κs. search needs)
     (λ c. search needs)
     (λ c κs. search needs)
-    (λ c. search needs)
     (λ c κs. search needs)
     (λ c. search needs)
     (λ c κs. search needs)
+    (λ c κs. search needs)
     (λ c. search needs)
+    (λ c κs. search needs)
+    (λ c κs. search needs)
+    (λ c. search needs)
+    (λ c κs. search needs)
     (λ c κs. search needs)
     (λ c. search by-equal)
     (λ c. search by-not-equal)
     (λ c. search by-compatible)
-    (λ c. search by-at-most)
-    (λ c. search by-at-least)
-    (λ c. search by-below)
-    (λ c. search by-above))
+    (λ c. search (by-at-most, by-at-most-name))
+    (λ c. search (by-at-least, by-at-least-name))
+    (λ c. search (by-below, by-at-least-name))
+    (λ c. search (by-above, by-at-most-name)))

@@ -1,6 +1,6 @@
 -- `clause::holds::compatible` meets its contract: one law for each way out.
 -- Assumes nothing.
-use Rattle.clause.proofs.Holding.{first-fails, second-decides}
+use Rattle.clause.proofs.Holding.{by-at-least-name, first-fails, second-decides}
 use borrow.Author.Needs.{needs}
 use Rattle.clause.proofs.holds.compatible.Statement.{statement}
 use Rattle.clause.proofs.holds.compatible.Tie as tie
@@ -11,5 +11,6 @@ compatible-spec =
     (tie.spec
     (λ c κs. search needs)
     (λ c κs. search needs)
-    (λ c. search second-decides)
-    (λ c. search first-fails))
+    (λ c κs. search needs)
+    (λ c. search (second-decides, by-at-least-name))
+    (λ c. search (first-fails, by-at-least-name)))

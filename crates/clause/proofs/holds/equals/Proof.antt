@@ -1,6 +1,6 @@
 -- `clause::holds::equals` meets its contract: one law for each way out.
 -- Assumes nothing.
-use Rattle.clause.proofs.Holding.{equal-by-match, equal-by-order, less-not-equal, same-equal, greater-not-equal}
+use Rattle.clause.proofs.Holding.{equal-by-match, equal-by-order, by-same-name}
 use borrow.Author.Needs.{needs}
 use Rattle.clause.proofs.holds.equals.Statement.{statement}
 use Rattle.clause.proofs.holds.equals.Tie as tie
@@ -12,9 +12,5 @@ equals-spec =
     (λ c κs. search needs)
     (λ c. search equal-by-match)
     (λ c κs. search needs)
-    (λ c. search needs)
-    (λ c. search needs)
-    (λ c. search needs)
-    (λ c. search (equal-by-order, less-not-equal))
-    (λ c. search (equal-by-order, same-equal))
-    (λ c. search (equal-by-order, greater-not-equal)))
+    (λ c κs. search needs)
+    (λ c. search (equal-by-order, by-same-name)))

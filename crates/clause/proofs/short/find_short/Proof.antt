@@ -1,0 +1,16 @@
+-- `clause::short::find_short` meets its contract.
+-- Assumes nothing.
+use lib.Seq.{length-take-le}
+use Rattle.clause.proofs.ShortClauses.{clause-found}
+use borrow.Author.Needs.{needs}
+use Rattle.clause.proofs.short.find_short.Statement.{statement}
+use Rattle.clause.proofs.short.find_short.Tie as tie
+
+pub find-short-spec : {M : Type 1} → statement M
+find-short-spec =
+    tie.close
+    (tie.spec
+    (λ c κs. search needs)
+    (λ c. search (length-take-le, needs))
+    (λ c κs. search needs)
+    (λ c. search clause-found))
