@@ -2,7 +2,7 @@
 -- Assumes nothing.
 use mathlib.Core.Path.{_≡_, refl, sym, _∙_, ap}
 use mathlib.Core.List.{List, map}
-use Prim.Native.Nat.{ℕ, _-_, _≤_}
+use Prim.Native.Nat.{ℕ, _+_, _*_, _-_, _≤_}
 use native.Mathlib.Omega.{arith}
 use lib.ListN.{length, replicate, length-append, length-map}
 use Rattle.answers.specs.declared.Refusal.{Refusal}
@@ -15,6 +15,7 @@ use Rattle.clause.specs.declared.list.Checked.{Checked}
 use Rattle.clause.specs.declared.list.Checked.the-variants.{Count, Refused as NotRead}
 use Rattle.clause.specs.List.{Listing, refused, clauses, listOf, countFrom, checked}
 use Rattle.ends.specs.Number.{placeNumber}
+use Rattle.ends.specs.Shape.{rangesOf}
 use Rattle.fold.specs.declared.clauses.Folded.{Folded}
 use Rattle.fold.specs.Ranges.{rangesIn, slots, packed}
 use Rattle.fold.specs.Numbered.{numbered, FoldedAs}
@@ -24,6 +25,7 @@ use Rattle.fold.proofs.Numbers.{numbered-places}
 use Rattle.table.specs.Text.{tableText}
 use Rattle.compile.specs.Said.{saidBy}
 use Rattle.compile.specs.Compiled.{answerTo, filledTo, Compiled}
+use Rattle.compile.proofs.Sizes.{table-within}
 
 module _ (s : List ℕ) (f : Folded) (h : FoldedAs s f) where
   pub list-short : (n : ℕ) → f .checked ≡ Count n → length s ≤ 1024
@@ -43,6 +45,25 @@ module _ (s : List ℕ) (f : Folded) (h : FoldedAs s f) where
   unfolding packed
   highs-room = room (λ r. r .hi) (f .ranges .highs) (ap (λ q. q .highs) (h .ranges .is))
 
+  -- the ranges that the arrays say are the list's
+  said-are : saidBy s (f .ranges .lows) (f .ranges .highs) (f .ranges .count) ≡ map (mapRange (placeNumber s)) (numbered s)
+  unfolding rangesIn
+  said-are = ap (map (mapRange (placeNumber s))) (held (h .ranges))
+
+  fits-by : (l : Listing) (n : ℕ) → listOf s ≡ l → Count n ≡ countFrom 0 l →
+      length (tableText (map (mapRange (placeNumber s)) (numbered s))) ≤ 862 * length (numbered s) + 6
+  fits-by (refused number place) n g e = let impossible : _≡_ {A = ℕ} 0 1 = cc in absurd (omega arith)
+  fits-by (clauses cs) n g e =
+      let same = numbered-places s cs g in
+      let size : length (numbered s) ≡ length (rangesOf cs) = sym (length-map (numbered s) (mapRange (placeNumber s))) ∙ ap length same in
+      rw same (omega (arith, table-within s cs g))
+
+  -- no table is longer than that
+  pub table-fits : (n : ℕ) → f .checked ≡ Count n →
+      length (tableText (saidBy s (f .ranges .lows) (f .ranges .highs) (f .ranges .count))) ≤ 862 * f .ranges .count + 6
+  unfolding checked
+  table-fits n e = rw said-are (omega (arith, fits-by (listOf s) n refl (sym e ∙ h .verdict), held-count (numbered s) (h .ranges .is)))
+
   refused-by : (l : Listing) (x : Refusal) (buf : List ℕ) → NotRead x ≡ countFrom 0 l → (Refused x ≡ answerTo l buf) × (buf ≡ filledTo l buf)
   refused-by (refused number place) x buf e = let same : x ≡ record { number = number; place = place } = cc in (ap Refused same, refl)
   refused-by (clauses cs) x buf e = let impossible : _≡_ {A = ℕ} 0 1 = cc in absurd (omega arith)
@@ -58,9 +79,9 @@ module _ (s : List ℕ) (f : Folded) (h : FoldedAs s f) where
 
   pub compile-printed : (n : ℕ) (old new : List ℕ) (r : Written) → f .checked ≡ Count n →
       Printed (tableText (saidBy s (f .ranges .lows) (f .ranges .highs) (f .ranges .count))) old new r → Compiled s old new r
-  unfolding checked rangesIn
+  unfolding checked
   compile-printed n old new r e p =
-      let q : Printed (tableText (map (mapRange (placeNumber s)) (numbered s))) old new r = rw (held (h .ranges)) at p in
+      let q : Printed (tableText (map (mapRange (placeNumber s)) (numbered s))) old new r = rw said-are at p in
       let both = said-by (listOf s) n old new r refl (sym e ∙ h .verdict) q in
       record { answers = both .0; leaves = both .1 }
 

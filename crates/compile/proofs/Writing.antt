@@ -7,8 +7,10 @@ use native.Mathlib.Numerals.{add-one}
 use native.Mathlib.Omega.{arith}
 use lib.ListN.{length, take, getD, length-take, length-map}
 use lib.Seq.{take-suc}
-use Rattle.decimal.specs.Put.{Wrote}
-use Rattle.decimal.proofs.Puts.{nothing, then, retext}
+use Rattle.answers.specs.declared.Written.the-variants.{Length}
+use Rattle.answers.specs.Written.{Printed}
+use Rattle.decimal.specs.Put.{Wrote, Put}
+use Rattle.decimal.proofs.Puts.{nothing, then, retext, whole, printed}
 use Rattle.ranges.specs.Range.{Range}
 use Rattle.ranges.specs.Map.{mapRange}
 use Rattle.ends.specs.declared.end.End.{End}
@@ -98,3 +100,9 @@ module _ (s : List ℕ) (low high : ℕ) (lower upper : End) (e : lower ≡ endN
       let upper-is : recordText uk (endText upper) ≡ upperText (placeNumber s high) =
       rw (h, f) (ap (recordText (upperKind (placeNumber s high))) (same-body s high)) in
       then (retext lower-is p) (retext upper-is q)
+
+-- a table that has room is written with no first run: the run itself tells its length
+pub at-once : (room r : ℕ) (text buf new : List ℕ) → length text ≤ room → room ≤ length buf → Put 35677192 buf 0 text new r →
+    Printed text buf new (Length r)
+at-once room r text buf new h k p =
+    let all = whole 35677192 text buf new r p (omega arith) in printed 35677192 text buf new r p (omega arith) buf new r p (omega arith)

@@ -7,7 +7,7 @@ use crate::record::upper_kind;
 use answers::Refusal;
 use answers::Written;
 ghost use mathlib.Core.List.{_++_};
-ghost use Prim.Native.Nat.{_≤_};
+ghost use Prim.Native.Nat.{_+_, _*_, _≤_};
 ghost use lib.ListN.{length};
 ghost use Rattle.answers.specs.Written.{Printed};
 ghost use Rattle.decimal.specs.Put.{Put};
@@ -60,14 +60,8 @@ fn put_table(
     put_ranges(buf, first, list, lows, highs, count)
 }
 
-// Writes the table to the front of a buffer, or says how much room it needs.
-pub(crate) fn print_table(
-    list: &[u8],
-    lows: &[u8],
-    highs: &[u8],
-    count: usize,
-    buf: &mut [u8],
-) -> Written
+// Writes the table to the front of a buffer, or says how much room it needs: a first run over no buffer tells.
+fn print_measured(list: &[u8], lows: &[u8], highs: &[u8], count: usize, buf: &mut [u8]) -> Written
     requires { ⌜ (length (now list) ≤ 1024) × (count ≤ 17) × (count ≤ length (now lows)) × (count ≤ length (now highs)) ⌝ }
     ensures { λ r. ⌜ Printed (tableText (saidBy (now (list .entry)) (now (lows .entry)) (now (highs .entry)) count)) (now (buf .entry)) (now (buf .exit)) r ⌝ }
 {
@@ -78,6 +72,25 @@ pub(crate) fn print_table(
             number: 11,
             place: need,
         });
+    }
+    let end = put_table(buf, 0, list, lows, highs, count);
+    Written::Length(end)
+}
+
+// The same. No end's text has more than 427 bytes, so that a buffer with room for as many as that needs no first run.
+pub(crate) fn print_table(
+    list: &[u8],
+    lows: &[u8],
+    highs: &[u8],
+    count: usize,
+    buf: &mut [u8],
+) -> Written
+    requires { ⌜ (length (now list) ≤ 1024) × (count ≤ 17) × (count ≤ length (now lows)) × (count ≤ length (now highs)) ⌝ }
+    requires { ⌜ length (tableText (saidBy (now list) (now lows) (now highs) count)) ≤ 862 * count + 6 ⌝ }
+    ensures { λ r. ⌜ Printed (tableText (saidBy (now (list .entry)) (now (lows .entry)) (now (highs .entry)) count)) (now (buf .entry)) (now (buf .exit)) r ⌝ }
+{
+    if buf.len() < 862 * count + 6 {
+        return print_measured(list, lows, highs, count, buf);
     }
     Written::Length(put_table(buf, 0, list, lows, highs, count))
 }

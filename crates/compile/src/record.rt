@@ -47,14 +47,27 @@ fn put_body(buf: &mut [u8], at: usize, end: End) -> usize
     }
 }
 
-// The body's length stands in front of it: a first run over no buffer tells it.
-pub(crate) fn put_end(buf: &mut [u8], at: usize, kind: usize, end: End) -> usize
+// At a place so far on that the next might not be said in 64 bits, a first run over no buffer tells the body's length.
+fn put_far_end(buf: &mut [u8], at: usize, kind: usize, end: End) -> usize
     ensures { λ r. ⌜ Put 1049329 (now (buf .entry)) at (recordText kind (endText end)) (now (buf .exit)) r ⌝ }
 {
     let mut none = [0u8; 0];
     let len = put_body(&mut none, 0, end);
     let body = put_head(buf, at, len, kind);
     put_body(buf, body, end)
+}
+
+// The body's length stands in front of it: the body comes first, four bytes further on, and tells it.
+pub(crate) fn put_end(buf: &mut [u8], at: usize, kind: usize, end: End) -> usize
+    ensures { λ r. ⌜ Put 1049329 (now (buf .entry)) at (recordText kind (endText end)) (now (buf .exit)) r ⌝ }
+{
+    if 4294967296 < at {
+        return put_far_end(buf, at, kind, end);
+    }
+    let body = at + 4;
+    let next = put_body(buf, body, end);
+    put_head(buf, at, next - body, kind);
+    next
 }
 
 pub(crate) fn lower_kind(end: End) -> usize

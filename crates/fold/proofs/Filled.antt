@@ -34,9 +34,9 @@ pub release-end : (row numbers filled : List ℕ) (i count n : ℕ) → filled �
     → filled ≡ paste row 2 numbers (min n 16)
 release-end row numbers filled i count n e h k m = let all : i ≡ min n 16 = omega arith in rw all at e
 
-pub row-turn : (rows row new : List ℕ) (start number i : ℕ) → new ≡ paste rows start row i → length rows ≡ 816 → number < 34
+pub row-turn : (rows row new : List ℕ) (start number i : ℕ) → new ≡ paste rows start row i → 24 * number + 24 ≤ length rows
     → start ≡ 24 * number → length row ≡ 24 → i < 24 → set new (start + i) (getD row i 0) ≡ paste rows start row (i + 1)
-row-turn rows row new start number i e h k l m j = pasted rows row new start i e (omega arith) (omega arith)
+row-turn rows row new start number i e h l m j = pasted rows row new start i e (omega arith) (omega arith)
 
 pub row-end : (rows row new : List ℕ) (start number i : ℕ) → new ≡ paste rows start row i → start ≡ 24 * number → i ≤ 24 → 24 ≤ i
     → new ≡ paste rows (24 * number) row 24

@@ -39,6 +39,7 @@ use Rattle.ends.proofs.Tables.{ranges-count, negated-most}
 use Rattle.fold.specs.declared.slots.Ranges.{Ranges}
 use Rattle.fold.specs.Row.{leRow, rowsTo, Rows, EndsPut}
 use Rattle.fold.specs.Ranges.{range, rangesIn, packed, Holds}
+use Rattle.fold.specs.Turn.{ClauseFolded}
 use Rattle.fold.specs.Numbered.{leNumber, shapesFrom, clausesIn, foldedBy, folded, numberedBy, numbered, startAt}
 use Rattle.fold.proofs.Packed.{held, held-count, restated}
 use Rattle.fold.proofs.Stored.{rows-agree, rows-go-on}
@@ -108,13 +109,13 @@ pub record Folding (s : List ℕ) (count i start : ℕ) (rows : List ℕ) (range
   pub parts : Holds 17 (foldedBy s (take i (clausesIn (listOf s)))) ranges
 
 -- no clause yet: one range, from below all to above all
-pub folding-none : (s old rows : List ℕ) (count : ℕ) (first second : End) (none ranges : Ranges) → length old ≡ 816
+pub folding-none : (s old rows : List ℕ) (count : ℕ) (first second : End) (none ranges : Ranges) (n : ℕ) → n + 48 ≤ length old
     → count ≡ length (clausesIn (listOf s)) → first ≡ bottom → second ≡ topmost
     → EndsPut 0 (placeOf first) (placeOf second) old rows → Holds 0 [] none → Holds (none .count + 1) (rangesIn none ++ (range 0 1 ∷ [])) ranges
     → Folding s count 0 0 rows ranges
 unfolding startAt endNumber rowsTo
-folding-none s old rows count first second none ranges size k e f put blank h =
-    let before : Rows (placeNumber s) 0 old = record { are = refl; short = λ n k. absurd (omega arith); size = size } in
+folding-none s old rows count first second none ranges n room k e f put blank h =
+    let before : Rows (placeNumber s) 0 old = record { are = refl; short = λ n k. absurd (omega arith) } in
     record {
       of = k;
       at = refl;
@@ -123,22 +124,21 @@ folding-none s old rows count first second none ranges size k e f put blank h =
     }
 
 -- one clause more
-pub folding-turn : (s : List ℕ) (i start next count : ℕ) (clause : Clause) (first second : End) (gap : Bool) (rows rows′ : List ℕ) (ranges ranges′ : Ranges)
+pub folding-turn : (s : List ℕ) (i start next count : ℕ) (clause : Clause) (rows rows′ : List ℕ) (ranges ranges′ : Ranges)
     → Folding s count i start rows ranges → i < count → clause ≡ clauseIn s start
-    → first ≡ firstEnd clause → second ≡ secondEnd clause → EndsPut (2 * i + 2) (placeOf first) (placeOf second) rows rows′
-    → gap ≡ hollow (clause .operator)
-    → ranges′ ≡ packed (step (leRow rows′) 0 1 (shaped gap (2 * i + 2) (2 * i + 2 + 1)) (rangesIn ranges))
-    → next ≡ commaAfter s start → Folding s count (i + 1) (next + 1) rows′ ranges′
+    → ClauseFolded i clause ranges rows rows′ ranges′ → next ≡ commaAfter s start → Folding s count (i + 1) (next + 1) rows′ ranges′
 unfolding startAt
-folding-turn s i start next count clause first second gap rows rows′ ranges ranges′ F h c e f put g r n =
+folding-turn s i start next count clause rows rows′ ranges ranges′ F h c turn n =
+    let room = turn .room in
+    let gap : Bool = hollow (clause .operator) in
     let cs : List Clause = clausesIn (listOf s) in
     let few = few-clauses s count (F .of) in
     let here : clause ≡ clauseIn s (startAt s 0 i) = rw (← F .at) c in
-    let one : endNumber s (2 * i + 2) ≡ first = first-number s i ∙ rw (← here, ← e) in
-    let other : endNumber s (suc (2 * i + 2)) ≡ second = second-number s i ∙ rw (← here, ← f) in
+    let one : endNumber s (2 * i + 2) ≡ firstEnd clause = first-number s i ∙ rw (← here) in
+    let other : endNumber s (suc (2 * i + 2)) ≡ secondEnd clause = second-number s i ∙ rw (← here) in
     let twice : 2 * (i + 1) + 2 ≡ suc (suc (2 * i + 2)) = omega arith in
     let keys : Rows (placeNumber s) (2 * (i + 1) + 2) rows′ =
-    rw twice (rows-go-on (placeNumber s) (2 * i + 2) _ _ rows rows′ (F .keys) (omega arith) put (ap placeOf one) (ap placeOf other)) in
+    rw twice (rows-go-on (placeNumber s) (2 * i + 2) _ _ rows rows′ (F .keys) (omega arith) (turn .put) (ap placeOf one) (ap placeOf other)) in
     let below : length (take i cs) ≡ i = length-take-le i cs (omega arith) in
     let next-clause : take (i + 1) cs ≡ take i cs ++ (clause ∷ []) =
     rw (add-one i) (clause-more s i cs (clauses-stand s .in-turn) (omega arith) ∙ rw here) in
@@ -146,8 +146,8 @@ folding-turn s i start next count clause first second gap rows rows′ ranges ra
     ≡ step (leNumber s) 0 1 (shaped gap (2 * i + 2) (2 * i + 2 + 1)) (foldedBy s (take i cs)) =
     rw (held (F .parts)) (rw below at (stepped s (2 * (i + 1) + 2) rows′ keys (take i cs) gap (omega arith))) in
     let after : foldedBy s (take (i + 1) cs) ≡ step (leNumber s) 0 1 (shaped gap (2 * i + 2) (2 * i + 2 + 1)) (foldedBy s (take i cs)) =
-    rw (next-clause, g) (rw below at (folded-more s (take i cs) clause)) in
-    let more : ranges′ ≡ packed (foldedBy s (take (i + 1) cs)) = r ∙ ap packed (by-places ∙ sym after) in
+    rw next-clause (rw below at (folded-more s (take i cs) clause)) in
+    let more : ranges′ ≡ packed (foldedBy s (take (i + 1) cs)) = turn .is ∙ ap packed (by-places ∙ sym after) in
     record {
       of = F .of;
       at = rw (add-one i, n, F .at);
@@ -192,6 +192,10 @@ module _ (s : List ℕ) where
 
       pub short-enough : length s ≤ 1024
       short-enough = accepted-short s n (sym f ∙ e)
+
+      -- the rows of 16 clauses are enough for all
+      pub rows-enough : (rows : List ℕ) → length rows ≡ 816 → 48 * n + 48 ≤ length rows
+      rows-enough rows size = omega (arith, few-clauses s n count-is)
 
       pub all-folded : (ranges : Ranges) → Holds 17 (folded s) ranges → Holds 17 (numbered s) ranges
       unfolding checked folded numbered

@@ -8,4 +8,5 @@ pub mod Stored
 pub mod Turned
 pub mod Shapes
 pub mod Folds
+pub mod Passes
 pub mod Numbers

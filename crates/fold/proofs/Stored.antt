@@ -60,22 +60,20 @@ module _ (f : ℕ → Place) where
     pub rows-agree : (a b : ℕ) → a < m → b < m → leRow rows a b ≡ lePlace (f a) (f b)
     rows-agree a b h k = rw (row-is a h, row-is b k) (rows-compare (f a) (f b) (R .short a h) (R .short b k))
 
-    pub rows-more : m < 34 → Short (f m) → Rows f (suc m) (paste rows (24 * m) (keyRow (f m)) 24)
+    pub rows-more : 24 * suc m ≤ length rows → Short (f m) → Rows f (suc m) (paste rows (24 * m) (keyRow (f m)) 24)
     unfolding rowsTo
     rows-more h s =
         let long = row-long (f m) s in
-        let size = R .size in
         let width : 24 * suc m ≡ 24 * m + 24 = omega arith in
         record {
           are = rw (width, take-paste rows (24 * m) (keyRow (f m)) 24 (omega arith) (omega arith), take-all 24 (keyRow (f m)) (omega arith), R .are);
           short = λ n k. elim (ℕ-discrete n m) [ yes e ↦ rw e s | no e ↦ R .short n (omega arith) ];
-          size = length-paste rows (24 * m) (keyRow (f m)) 24 (omega arith) (omega arith) ∙ R .size;
         }
 
 -- the way out of `put_ends`
-pub both-put : (m : ℕ) (p q : Place) (one other old middle new : List ℕ) → length old ≡ 816 → m < 33 → RowOf p one → RowOf q other
+pub both-put : (m : ℕ) (p q : Place) (one other old middle new : List ℕ) → 24 * m + 48 ≤ length old → RowOf p one → RowOf q other
     → middle ≡ paste old (24 * m) one 24 → new ≡ paste middle (24 * (m + 1)) other 24 → EndsPut m p q old new
-both-put m p q one other old middle new size few first second e f =
+both-put m p q one other old middle new room first second e f =
     let long = row-long p (first .short) in
     let wide = row-long q (second .short) in
     let there = length-paste old (24 * m) (keyRow p) 24 (omega arith) (omega arith) in
@@ -85,13 +83,15 @@ both-put m p q one other old middle new size few first second e f =
       is = is;
       first = first .short;
       second = second .short;
-      size = ap length is ∙ length-paste (paste old (24 * m) (keyRow p) 24) (24 * suc m) (keyRow q) 24 (omega arith) (omega arith) ∙ there ∙ size;
+      size = ap length is ∙ length-paste (paste old (24 * m) (keyRow p) 24) (24 * suc m) (keyRow q) 24 (omega arith) (omega arith) ∙ there;
     }
 
 -- the rows go on with those of the two places
-pub rows-go-on : (f : ℕ → Place) (m : ℕ) (p q : Place) (old new : List ℕ) → Rows f m old → m < 33 → EndsPut m p q old new
+pub rows-go-on : (f : ℕ → Place) (m : ℕ) (p q : Place) (old new : List ℕ) → Rows f m old → 24 * m + 48 ≤ length old → EndsPut m p q old new
     → f m ≡ p → f (suc m) ≡ q → Rows f (suc (suc m)) new
 rows-go-on f m p q old new R h put e g =
     let one = rows-more f m old R (omega arith) (rw e (put .first)) in
+    let long = row-long (f m) (rw e (put .first)) in
+    let there = length-paste old (24 * m) (keyRow (f m)) 24 (omega arith) (omega arith) in
     let two = rows-more f (suc m) _ one (omega arith) (rw g (put .second)) in
     rw (put .is, ← e, ← g) two

@@ -3,10 +3,10 @@
 use mathlib.Core.Path.{_≡_, refl, _∙_, ap}
 use mathlib.Core.Bool.{Bool, true, false}
 use mathlib.Core.List.{List}
-use Prim.Native.Nat.{ℕ, _+_, _*_, _-_, _≤_, compare}
+use Prim.Native.Nat.{ℕ, _+_, _*_, _-_, _≤_, _<_, compare}
 use native.Mathlib.Omega.{arith}
 use lib.ListN.{length, take, drop}
-use Rattle.chars.proofs.Parts.{part-past}
+use Rattle.chars.proofs.Parts.{part-past, part-over}
 use Rattle.order.specs.Ordering.{Ordering, lt, eq, gt, isLe}
 use Rattle.order.specs.Compare.{padded}
 use Rattle.order.specs.Answer.{nameOf}
@@ -16,13 +16,17 @@ use Rattle.ranges.specs.Compile.{tighter}
 use Rattle.fold.specs.Row.{rowAt, leRow}
 
 module _ (rows : List ℕ) (number : ℕ) where
-  pub row-past : length rows ≡ 816 → 34 ≤ number → take 0 rows ≡ rowAt rows number
+  pub row-past : (start : ℕ) → start ≡ 24 * number → length rows ≤ start → take 0 rows ≡ rowAt rows number
   unfolding rowAt
-  row-past h k = part-past rows (24 * number) 24 (omega arith)
+  row-past start e h = part-past rows (24 * number) 24 (omega arith)
 
   pub row-there : (start end : ℕ) → start ≡ 24 * number → end ≡ start + 24 → take (end - start) (drop start rows) ≡ rowAt rows number
   unfolding rowAt
   row-there start end e f = let width : end - start ≡ 24 = omega arith in rw (width, e)
+
+  pub row-cut : (start end : ℕ) → start ≡ 24 * number → end ≡ start + 24 → length rows < end
+      → take (length rows - start) (drop start rows) ≡ rowAt rows number
+  row-cut start end e f h = part-over rows start end h ∙ row-there start end e f
 
 -- the answer, by its name
 abbrev atMostBy : Order → Bool

@@ -1,3 +1,4 @@
 pub mod Row
 pub mod Ranges
 pub mod Numbered
+pub mod Turn

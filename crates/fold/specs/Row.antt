@@ -74,11 +74,10 @@ leRow rows a b = atMost (padded compare 0) (rowAt rows a) (rowAt rows b)
 pub record Rows (f : ℕ → Place) (count : ℕ) (rows : List ℕ) : Type 0 where
   pub are : take (24 * count) rows ≡ rowsTo f count
   pub short : (n : ℕ) → suc n ≤ count → Short (f n)
-  pub size : length rows ≡ 816
 
 -- the rows of two places were stored as those with the number m and the next
 pub record EndsPut (m : ℕ) (p q : Place) (old new : List ℕ) : Type 0 where
   pub is : new ≡ paste (paste old (24 * m) (keyRow p) 24) (24 * suc m) (keyRow q) 24
   pub first : Short p
   pub second : Short q
-  pub size : length new ≡ 816
+  pub size : length new ≡ length old

@@ -4,7 +4,6 @@ use crate::slots::Ranges;
 ghost use mathlib.Core.Path.{_≡_};
 ghost use mathlib.Core.List.{[], _++_};
 ghost use Prim.Native.Nat.{_+_, _≤_, _<_};
-ghost use lib.ListN.{length};
 ghost use Rattle.ranges.specs.Compile.{tighter, keep as kept, clip as clipped, step as stepped};
 ghost use Rattle.ends.specs.Shape.{shaped};
 ghost use Rattle.fold.specs.Row.{leRow};
@@ -12,7 +11,6 @@ ghost use Rattle.fold.specs.Ranges.{Holds, range, rangesIn, packed};
 
 // The greater of two lower ends; of equal ones the old.
 fn lower(rows: &[u64], new: u8, old: u8) -> u8
-    requires { ⌜ length (now rows) ≡ 816 ⌝ }
     ensures { λ r. ⌜ r ≡ tighter (leRow (now (rows .entry))) new old ⌝ }
 {
     if at_most(rows, new, old) { old } else { new }
@@ -20,7 +18,6 @@ fn lower(rows: &[u64], new: u8, old: u8) -> u8
 
 // The smaller of two upper ends; of equal ones the old.
 fn upper(rows: &[u64], new: u8, old: u8) -> u8
-    requires { ⌜ length (now rows) ≡ 816 ⌝ }
     ensures { λ r. ⌜ r ≡ tighter (λ a b. leRow (now (rows .entry)) b a) new old ⌝ }
 {
     if at_most(rows, old, new) { old } else { new }
@@ -28,7 +25,7 @@ fn upper(rows: &[u64], new: u8, old: u8) -> u8
 
 // One more range behind the others, unless it is empty.
 fn keep(rows: &[u64], ranges: Ranges, low: u8, high: u8) -> Ranges
-    requires { ⌜ (length (now rows) ≡ 816) × (ranges .count < 34) × Holds (ranges .count) (rangesIn ranges) ranges ⌝ }
+    requires { ⌜ (ranges .count < 34) × Holds (ranges .count) (rangesIn ranges) ranges ⌝ }
     ensures { λ r. ⌜ Holds (ranges .count + 1) (rangesIn ranges ++ kept (leRow (now (rows .entry))) (range low high) []) r ⌝ }
 {
     if at_most(rows, high, low) {
@@ -39,7 +36,6 @@ fn keep(rows: &[u64], ranges: Ranges, low: u8, high: u8) -> Ranges
 
 // The parts of the old ranges between two ends, behind the others.
 pub(crate) fn clip(rows: &[u64], old: Ranges, low: u8, high: u8, others: Ranges) -> Ranges
-    requires { ⌜ length (now rows) ≡ 816 ⌝ }
     requires { ⌜ (old .count ≤ 17) × (others .count ≤ 17) × Holds (others .count) (rangesIn others) others ⌝ }
     ensures { λ r. ⌜ Holds (others .count + old .count) (rangesIn others ++ clipped (leRow (now (rows .entry))) low high (rangesIn old)) r ⌝ }
 {
@@ -60,7 +56,7 @@ pub(crate) fn clip(rows: &[u64], old: Ranges, low: u8, high: u8, others: Ranges)
 // The parts of the old ranges that a clause accepts, by the numbers of its two ends: what lies between them, or, around a hole, first all
 // that lies below it and then all that lies above.
 pub(crate) fn step(rows: &[u64], old: Ranges, hollow: bool, low: u8, high: u8) -> Ranges
-    requires { ⌜ (length (now rows) ≡ 816) × (old .count ≤ 17) ⌝ }
+    requires { ⌜ old .count ≤ 17 ⌝ }
     ensures { λ r. ⌜ r ≡ packed (stepped (leRow (now (rows .entry))) 0 1 (shaped hollow low high) (rangesIn old)) ⌝ }
 {
     if hollow {

@@ -1,6 +1,6 @@
 -- `compile::compile` meets its contract: the list's refusal, or its table.
 -- Assumes nothing.
-use Rattle.compile.proofs.Compiling.{list-short, lows-room, highs-room, compile-refused, compile-printed}
+use Rattle.compile.proofs.Compiling.{list-short, lows-room, highs-room, table-fits, compile-refused, compile-printed}
 use borrow.Author.Needs.{needs}
 use Rattle.compile.proofs.compile.Statement.{statement}
 use Rattle.compile.proofs.compile.Tie as tie
@@ -13,7 +13,7 @@ compile-spec =
     (λ c. search needs)
     (λ c. search needs)
     (λ c. search needs)
-    (λ c κs. (search list-short, search needs, search lows-room, search highs-room))
+    (λ c κs. ((search list-short, search needs, search lows-room, search highs-room), search table-fits))
     (λ c. search needs)
     (λ c. search needs)
     (λ c. search compile-printed)

@@ -1,7 +1,6 @@
--- `compile::print::print_table` meets its contract: the first run says the length, the second writes.
+-- `compile::print::print_table` meets its contract: where there is room for any table of that count, it is written at once.
 -- Assumes nothing.
-use native.Mathlib.Omega.{arith}
-use Rattle.decimal.proofs.Puts.{short, printed}
+use Rattle.compile.proofs.Writing.{at-once}
 use borrow.Author.Needs.{needs}
 use Rattle.compile.proofs.print.print_table.Statement.{statement}
 use Rattle.compile.proofs.print.print_table.Tie as tie
@@ -11,8 +10,10 @@ print-table-spec =
     tie.close
     (tie.spec
     (λ c. search needs)
-    (λ c κs. search needs)
-    (λ c. short _ _ _ _ _ (c .before .before .put-table .ensures) (omega arith) _ (c .if1 .taken))
+    (λ c. search needs)
     (λ c κs. search needs)
     (λ c. search needs)
-    (λ c. printed _ _ _ _ _ (c .before .before .before .before .before .before .put-table .ensures) (omega arith) _ _ _ (c .before .before .put-table2 .ensures) (search needs)))
+    (λ c. search needs)
+    (λ c κs. search needs)
+    (λ c. search needs)
+    (λ c. search at-once))

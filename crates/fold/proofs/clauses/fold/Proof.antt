@@ -1,7 +1,8 @@
--- `fold::clauses::fold` meets its contract: a refused list has no range, and of another all clauses are folded.
+-- `fold::clauses::fold` meets its contract: what one pass found, no range of a refused list, and of another all clauses folded.
 -- Assumes nothing.
+use Rattle.fold.proofs.Folds.{refused-none, count-is, short-enough, rows-enough, all-folded}
+use Rattle.fold.proofs.Passes.{found}
 use borrow.Author.Needs.{needs}
-use Rattle.fold.proofs.Folds.{refused-none, count-is, short-enough, all-folded}
 use Rattle.fold.proofs.clauses.fold.Statement.{statement}
 use Rattle.fold.proofs.clauses.fold.Tie as tie
 
@@ -10,10 +11,12 @@ fold-spec =
     tie.close
     (tie.spec
     (λ c κs. search needs)
+    (λ c. search found)
+    (λ c κs. search needs)
     (λ c. search needs)
     (λ c. search needs)
     (λ c κs. search needs)
     (λ c. record { verdict = search needs; ranges = search refused-none })
     (λ c. search needs)
-    (λ c κs. (search count-is, search short-enough, search needs))
+    (λ c κs. (search count-is, search short-enough, search (rows-enough, needs)))
     (λ c. record { verdict = cc; ranges = search all-folded }))

@@ -38,7 +38,7 @@ clip-spec =
     (λ c κs. search needs)
     (λ c. search needs)
     (λ c κs. search needs)
-    (λ c κs. (search needs, search needs, search clip-room))
+    (λ c κs. (search needs, search clip-room))
     (λ c. search needs)
     (λ c. search needs)
     again

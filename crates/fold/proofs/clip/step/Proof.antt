@@ -11,9 +11,9 @@ step-spec =
     tie.close
     (tie.spec
     (λ c κs. search needs)
-    (λ c κs. (search needs, (search needs, search needs, search settled)))
-    (λ c κs. (search needs, (search needs, search needs, search settled)))
+    (λ c κs. (search needs, search needs, search settled))
+    (λ c κs. (search needs, search needs, search settled))
     (λ c. search leaves-hole)
     (λ c κs. search needs)
-    (λ c κs. (search needs, (search needs, search needs, search settled)))
+    (λ c κs. (search needs, search needs, search settled))
     (λ c. search spans))

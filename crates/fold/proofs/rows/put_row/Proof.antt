@@ -10,7 +10,7 @@ use Rattle.fold.proofs.rows.put_row.Statement.{statement}
 use Rattle.fold.proofs.rows.put_row.Tie as tie
 
 abbrev Inv-loop : tie.InvT-loop
-Inv-loop rows₀ number row start i₀ rows i = (i ≤ 24) × (length rows ≡ 816) × (rows ≡ paste rows₀ start row i)
+Inv-loop rows₀ number row start i₀ rows i = (i ≤ 24) × (length rows ≡ length rows₀) × (rows ≡ paste rows₀ start row i)
 
 abbrev μ-loop : tie.MeasureT-loop
 μ-loop rows₀ number row start i₀ rows i = 24 - i

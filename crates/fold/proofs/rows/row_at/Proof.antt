@@ -1,7 +1,7 @@
--- `fold::rows::row_at` meets its contract.
+-- `fold::rows::row_at` meets its contract: no row, a part of one, or a row.
 -- Assumes nothing.
 use borrow.Author.Needs.{needs}
-use Rattle.fold.proofs.Tests.{row-past, row-there}
+use Rattle.fold.proofs.Tests.{row-past, row-cut, row-there}
 use Rattle.fold.proofs.rows.row_at.Statement.{statement}
 use Rattle.fold.proofs.rows.row_at.Tie as tie
 
@@ -10,9 +10,14 @@ row-at-spec =
     tie.close
     (tie.spec
     (λ c. search needs)
+    (λ c. search needs)
+    (λ c. search needs)
     (λ c. search row-past)
     (λ c. search needs)
     (λ c. search needs)
+    (λ c. search needs)
+    (λ c. search needs)
+    (λ c. search row-cut)
     (λ c. search needs)
     (λ c. search needs)
     (λ c. search needs)

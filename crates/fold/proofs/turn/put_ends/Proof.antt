@@ -1,9 +1,9 @@
--- `fold::clauses::put_ends` meets its contract.
+-- `fold::turn::put_ends` meets its contract.
 -- Assumes nothing.
 use borrow.Author.Needs.{needs}
 use Rattle.fold.proofs.Stored.{both-put}
-use Rattle.fold.proofs.clauses.put_ends.Statement.{statement}
-use Rattle.fold.proofs.clauses.put_ends.Tie as tie
+use Rattle.fold.proofs.turn.put_ends.Statement.{statement}
+use Rattle.fold.proofs.turn.put_ends.Tie as tie
 
 pub put-ends-spec : {M : Type 1} → statement M
 put-ends-spec =
