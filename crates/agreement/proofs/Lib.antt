@@ -1,5 +1,4 @@
 pub mod Records
-pub mod Bodies
 pub mod Reread
 pub mod Agreement
 pub mod Sizes

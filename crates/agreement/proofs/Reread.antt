@@ -23,7 +23,7 @@ use Rattle.table.specs.Kind.{kindOf}
 use Rattle.table.specs.Text.{lowerKind, upperKind, bodyText, lowerText, upperText, rangesText, tableText}
 use Rattle.table.specs.Table.{lowerOf, upperOf, ascends, Ended, endIn, ranges, rangesFrom, tableOf}
 use Rattle.agreement.proofs.Records.{Here, two-here, record-next, record-here, body-here}
-use Rattle.agreement.proofs.Bodies.{version-here}
+use Rattle.table.proofs.Written.{version-here}
 
 text-short : (v : Value) → Writable v → length (valueText v) < 65536
 text-short v w = omega (arith, unlabelled-length v (w .readable) (w .unlabelled))

@@ -37,7 +37,7 @@ at-version Top v h = absurd (omega arith)
 at-version Before v h = refl
 at-version After v h = refl
 
-answer : (q : Order) (o p : Ordering) → q ≡ nameOf o → q ≡ nameOf p → o ≡ p
+pub answer : (q : Order) (o p : Ordering) → q ≡ nameOf o → q ≡ nameOf p → o ≡ p
 answer q lt lt e f = refl
 answer q lt eq e f = cc
 answer q lt gt e f = cc

@@ -27,7 +27,10 @@ use Rattle.table.specs.Table.{lowerOf, upperOf, endIn, Tabled, refused, 
 use Rattle.table.specs.Reached.{noEnd, placeReached, endReached, badTable, searchedFor}
 use Rattle.table.proofs.kind.Kind.{the-type}
 
--- the ways of `held_by`
+-- the ways of `held_by`, and the first of `held_between`
+pub held-already : (earlier later : Bool) → earlier ≡ true → true ≡ earlier || later
+held-already earlier later e = rw e
+
 module _ (earlier : Bool) (lo hi c : Place) (none-yet : earlier ≡ false) (r : Bool) (e : r ≡ lePlace lo c) where
   pub held-here : (q : Bool) → r ≡ true → q ≡ lePlace hi c → not q ≡ earlier || within lePlace lo hi c
   held-here q f g = rw (none-yet, ← e, f, g)

@@ -1,21 +1,21 @@
 -- The version in a body that was written.
 -- Assumes nothing.
 use mathlib.Core.Path.{_≡_, refl, sym, _∙_, ap}
-use mathlib.Core.List.{List, [], _∷_}
+use mathlib.Core.List.{List, []}
 use mathlib.Core.Option.{some}
 use Prim.Native.Nat.{ℕ, zero, suc, min}
 use native.Mathlib.Omega.{arith}
 use lib.ListN.{length}
 use Rattle.reading.specs.declared.fields.Version.{Version}
 use Rattle.reading.specs.Reading.{versionOf}
-use Rattle.reading.specs.Value.{Value, listed, valueOf, valueIn}
+use Rattle.reading.specs.Value.{Value, listed, valueOf}
 use Rattle.normal.specs.Normal.{normalText}
 use Rattle.roundtrip.specs.Text.{valueText}
 use Rattle.roundtrip.proofs.Roundtrip.{normal-of-value}
 use Rattle.roundtrip.proofs.Unlabelled.{unlabelled-reads-back}
 use Rattle.ends.specs.Writable.{Writable}
-use Rattle.table.specs.Body.{sameBytes, versionIn}
+use Rattle.table.specs.Body.{versionIn}
 use Rattle.table.proofs.Same.{same-self}
 
 listed-length : {A : Type 0} (f : ℕ → A) (i count : ℕ) → length (listed f i count) ≡ count
 unfolding listed

@@ -1,0 +1,18 @@
+-- `table::lookup::lookup_whole` meets its contract: one law for each way out.
+-- Assumes nothing.
+use Rattle.table.proofs.Lookups.{lookup-refused, lookup-held}
+use borrow.Author.Needs.{needs}
+use Rattle.table.proofs.lookup.lookup_whole.Statement.{statement}
+use Rattle.table.proofs.lookup.lookup_whole.Tie as tie
+
+pub lookup-whole-spec : {M : Type 1} → statement M
+lookup-whole-spec =
+    tie.close
+    (tie.spec
+    (λ c κs. search needs)
+    (λ c κs. search needs)
+    (λ c. search needs)
+    (λ c. search needs)
+    (λ c κs. search needs)
+    (λ c. search lookup-refused)
+    (λ c. search lookup-held))
