@@ -11,7 +11,7 @@ use lib.ListN.{length, length-replicate}
 use Rattle.chars.specs.Pick.{pick}
 use Rattle.chars.specs.Class.{classOf, other, blank, separator, digit, letter}
 use Rattle.chars.proofs.Table.{every, at}
-use Rattle.chars.proofs.Cases.{yes-lt}
+use Rattle.chars.proofs.Cases.{yes-lt, no-lt, no-le}
 
 -- the tests of `low_ranged`, in its order
 abbrev pub lowRanged : ℕ → ℕ
@@ -27,10 +27,10 @@ lowRanged b =
 -- those of `ranged`
 abbrev pub byRanges : ℕ → ℕ
 byRanges b =
-    pick (ltb b (code "0")) (lowRanged b)
-    (pick (leb b (code "9")) digit
-    (pick (ltb (code "z") b) other
+    pick (ltb (code "z") b) other
     (pick (leb (code "a") b) letter
+    (pick (ltb b (code "0")) (lowRanged b)
+    (pick (leb b (code "9")) digit
     (pick (ltb b (code "A")) other
     (pick (leb b (code "Z")) letter
     (pick (eqb b (code "_")) separator
@@ -51,4 +51,5 @@ unfolding same bytes
 ranged-as b x h e = e ∙ eqb→eq (byRanges b) (classOf b) (at same bytes passes b (rw (length-replicate {A = ℕ} 256 0) h))
 
 pub low-ranged-as : (b x : ℕ) → b < 48 → x ≡ lowRanged b → x ≡ classOf b
-low-ranged-as b x h e = ranged-as b x (omega arith) (yes-lt b _ _ h e)
+low-ranged-as b x h e =
+    ranged-as b x (omega arith) (no-lt _ b _ (omega arith) (no-le _ b _ (omega arith) (yes-lt b _ _ h e)))

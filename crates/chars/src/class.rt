@@ -281,21 +281,21 @@ pub fn class_of(b: u8) -> u8
     CLASSES[i]
 }
 
-// The same by the ranges of bytes.
+// The same by the ranges of bytes, those of small letters first: the longest runs are theirs.
 pub fn ranged(b: u8) -> u8
     ensures { λ r. ⌜ Classed b r ⌝ }
 {
-    if b < b'0' {
-        return low_ranged(b);
-    }
-    if b <= b'9' {
-        return DIGIT;
-    }
     if b'z' < b {
         return OTHER;
     }
     if b'a' <= b {
         return LETTER;
+    }
+    if b < b'0' {
+        return low_ranged(b);
+    }
+    if b <= b'9' {
+        return DIGIT;
     }
     if b < b'A' {
         return OTHER;

@@ -11,10 +11,10 @@ pub ranged-spec : {M : Type 1} → statement M
 ranged-spec =
     tie.close
     (tie.spec
+    (λ c. record { is = ranged-as _ _ (omega arith) (search cases depth 8); seen = omega arith })
+    (λ c. record { is = ranged-as _ _ (omega arith) (search cases depth 8); seen = omega arith })
     (λ c κs. search needs)
     (λ c. search needs)
-    (λ c. record { is = ranged-as _ _ (omega arith) (search cases depth 8); seen = omega arith })
-    (λ c. record { is = ranged-as _ _ (omega arith) (search cases depth 8); seen = omega arith })
     (λ c. record { is = ranged-as _ _ (omega arith) (search cases depth 8); seen = omega arith })
     (λ c. record { is = ranged-as _ _ (omega arith) (search cases depth 8); seen = omega arith })
     (λ c. record { is = ranged-as _ _ (omega arith) (search cases depth 8); seen = omega arith })
