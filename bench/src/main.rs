@@ -10,13 +10,21 @@ use rows::{Texts, ROWS};
 const LONGEST: usize = 1024;
 
 fn main() {
+    let part = std::env::args().nth(1).unwrap_or_default();
+    let wanted = |name: &str| part.is_empty() || part == name;
     println!("Nanoseconds a call: the proved library, the Rust, and the first divided by the second (the median of the");
     println!("rounds, and between which ratios four of five lie).");
-    table("A realistic mix", &Texts::of(texts::mixed(1000), texts::lists(100)));
-    for (shape, text) in texts::long(LONGEST) {
-        table(&format!("1,024 bytes: {shape}"), &Texts::of(vec![text], vec![texts::long_list(LONGEST)]));
+    if wanted("mix") {
+        table("A realistic mix", &Texts::of(texts::mixed(1000), texts::lists(100)));
     }
-    growth();
+    if wanted("long") {
+        for (shape, text) in texts::long(LONGEST) {
+            table(&format!("1,024 bytes: {shape}"), &Texts::of(vec![text], vec![texts::long_list(LONGEST)]));
+        }
+    }
+    if wanted("growth") {
+        growth();
+    }
 }
 
 fn table(title: &str, texts: &Texts) {

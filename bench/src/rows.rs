@@ -59,6 +59,7 @@ pub const ROWS: &[Row] = &[
     Row { name: "compare", measure: compare },
     Row { name: "word", measure: word },
     Row { name: "accepts", measure: accepts },
+    Row { name: "check", measure: check },
     Row { name: "compile", measure: compile },
     Row { name: "lookup", measure: lookup },
 ];
@@ -145,6 +146,22 @@ fn accepts(texts: &Texts) -> Measured {
             for (list, text) in texts.pairs() {
                 let list = specifiers(black_box(&texts.lists[list]));
                 black_box(list.contains(&version(black_box(text))));
+            }
+        },
+    )
+}
+
+fn check(texts: &Texts) -> Measured {
+    measure(
+        texts.lists.len(),
+        &mut || {
+            for list in &texts.lists {
+                black_box(knappulf::check(black_box(list).as_bytes()).expect("accepted"));
+            }
+        },
+        &mut || {
+            for list in &texts.lists {
+                black_box(&specifiers(black_box(list)));
             }
         },
     )
