@@ -15,10 +15,10 @@ use Rattle.reading.specs.declared.text.Verdict.{Verdict}
 use Rattle.reading.specs.declared.text.Verdict.the-variants.{Accepted, Refused}
 use Rattle.reading.specs.Reading.{versionOf}
 use Rattle.reading.specs.Value.{Value, valueIn}
-use Rattle.compare.proofs.Bounds.{held-version}
+use Rattle.prefixes.proofs.Bounds.{held-version}
 use Rattle.clause.specs.declared.clause.Clause.{Clause}
 use Rattle.clause.specs.List.{Listing, refused, clauses, listOf}
-use Rattle.clause.specs.Accept.{allAccept, judgedBy, accepted, yesOrNo as saysAccepts}
+use Rattle.accepting.specs.Accept.{allAccept, judgedBy, accepted, yesOrNo as saysAccepts}
 use Rattle.ends.specs.Shape.{rangesOf}
 use Rattle.ends.proofs.Tables.{ranges-ascend, ranges-hold, ranges-most}
 use Rattle.ends.proofs.Written.{ends-written}

@@ -8,7 +8,7 @@ use Rattle.reading.specs.Value.{listed, labelFrom, valueOf}
 use Rattle.roundtrip.specs.Text.{valueText}
 use Rattle.roundtrip.proofs.Extremes.{computed}
 use Rattle.compare.specs.Versions.{compareRelease, compareKey, comparePublic, compareLabel, compareValues}
-use Rattle.compare.specs.Prefix.{prefixMatches, nextPrefix}
+use Rattle.prefixes.specs.Prefix.{prefixMatches, nextPrefix}
 use Rattle.compare.specs.Compared.{compared}
 use Rattle.word.specs.Small.{smallRelease, isSmall, releaseWord, wordOf}
 use Rattle.word.specs.Worded.{worded, wordAnswer}
@@ -16,7 +16,7 @@ use Rattle.clause.specs.Operator.{orderOf, operatorOf}
 use Rattle.clause.specs.Trim.{trimmedLength, beforeComma}
 use Rattle.clause.specs.Clause.{judged, patternClause, trimmedClause, clauseOf}
 use Rattle.clause.specs.List.{commaAfter, clauseAt, clausesFrom, listOf}
-use Rattle.clause.specs.Accept.{holds, accepted}
+use Rattle.accepting.specs.Accept.{holds, accepted}
 use Rattle.ends.specs.Shape.{rangesOf}
 use Rattle.table.specs.Record.{twoBytes, recordText}
 use Rattle.table.specs.Text.{rangesText, tableText}

@@ -1,6 +1,6 @@
 -- One answer for what a list says of a version and for what a table says.
-use Rattle.clause.specs.declared.accept.Accepts.{Accepts}
-use Rattle.clause.specs.declared.accept.Accepts.the-variants.{Yes, No, List as OfList, Version as OfVersion}
+use Rattle.accepting.specs.declared.accept.Accepts.{Accepts}
+use Rattle.accepting.specs.declared.accept.Accepts.the-variants.{Yes, No, List as OfList, Version as OfVersion}
 use Rattle.table.specs.declared.lookup.Looked.{Looked}
 use Rattle.table.specs.declared.lookup.Looked.the-variants.{Yes as Held, No as NotHeld, Table, Version}
 

@@ -13,10 +13,10 @@ use Rattle.compare.specs.declared.text.Compared.the-variants.{Less, Equal}
 use Rattle.compare.specs.Compared.{compared}
 use Rattle.word.specs.declared.packed.Worded.the-variants.{Word}
 use Rattle.word.specs.Worded.{wordIs, wordAnswer}
-use Rattle.clause.specs.declared.accept.Accepts.{Accepts}
-use Rattle.clause.specs.declared.accept.Accepts.the-variants.{Yes, No}
+use Rattle.accepting.specs.declared.accept.Accepts.{Accepts}
+use Rattle.accepting.specs.declared.accept.Accepts.the-variants.{Yes, No}
 use Rattle.clause.specs.List.{Listing, refused, clauses, listOf}
-use Rattle.clause.specs.Accept.{accepted}
+use Rattle.accepting.specs.Accept.{accepted}
 use Rattle.ends.specs.Shape.{rangesOf}
 use Rattle.table.specs.Text.{tableText}
 

@@ -1,13 +1,8 @@
-pub mod Anchors
 pub mod Operators
 pub mod Trims
 pub mod Clauses
 pub mod Lists
 pub mod Turns
-pub mod Holding
-pub mod Verdicts
-pub mod ShortClauses
-pub mod ShortHolding
 pub mod Faults
 pub mod Rows
 pub mod Exactly

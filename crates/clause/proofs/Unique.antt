@@ -7,18 +7,13 @@ use Rattle.version.proofs.Unique.{one-answer}
 use Rattle.clause.specs.declared.operator.OperatorAt.{OperatorAt}
 use Rattle.clause.specs.declared.clause.Clause.{Clause}
 use Rattle.clause.specs.declared.list.Checked.{Checked}
-use Rattle.clause.specs.declared.accept.Accepts.{Accepts}
 use Rattle.clause.specs.Operator.{Operated}
 use Rattle.clause.specs.Trim.{Trimmed, Before}
 use Rattle.clause.specs.Clause.{ClauseIs}
 use Rattle.clause.specs.List.{Reached, checked}
-use Rattle.clause.specs.Accept.{accepted}
 
 pub one-check : (s : List ℕ) {r q : Checked} → r ≡ checked s → q ≡ checked s → r ≡ q
 one-check s = one-answer
-
-pub one-acceptance : (s t : List ℕ) {r q : Accepts} → r ≡ accepted s t → q ≡ accepted s t → r ≡ q
-one-acceptance s t = one-answer
 
 pub one-clause : {spec r q : Clause} → ClauseIs spec r → ClauseIs spec q → r ≡ q
 one-clause p q = one-answer (p .is) (q .is)

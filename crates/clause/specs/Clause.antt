@@ -7,11 +7,12 @@ use lib.Dec.{eqb}
 use lib.ListN.{length, take, drop}
 use Rattle.chars.specs.Pick.{pick}
 use Rattle.chars.specs.Class.{blank, between, front}
-use Rattle.reading.specs.declared.fields.Version.{Version}
+use Rattle.parts.specs.declared.fields.Version.{Version}
 use Rattle.reading.specs.declared.text.Verdict.{Verdict}
 use Rattle.reading.specs.declared.text.Verdict.the-variants.{Accepted, Refused}
 use Rattle.reading.specs.declared.text.PatternReading.{PatternReading}
-use Rattle.reading.specs.Reading.{noVersion, patternOf}
+use Rattle.reading.specs.Reading.{patternOf}
+use Rattle.parts.specs.Fields.{noVersion}
 use Rattle.clause.specs.declared.operator.Operator.{Operator}
 use Rattle.clause.specs.declared.operator.Operator.the-variants.{Equal, NotEqual, Compatible, AtMost, AtLeast, Below, Above}
 use Rattle.clause.specs.declared.operator.OperatorAt.{OperatorAt}

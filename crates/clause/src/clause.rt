@@ -4,11 +4,11 @@ use crate::operator::OperatorAt;
 use crate::operator::find_operator;
 use crate::trim::trimmed_len;
 use chars::class;
-use reading::fields::Local;
-use reading::fields::Part;
-use reading::fields::Pre;
-use reading::fields::Release;
-use reading::fields::Version;
+use parts::fields::Local;
+use parts::fields::Part;
+use parts::fields::Pre;
+use parts::fields::Release;
+use parts::fields::Version;
 use reading::text::Verdict;
 ghost use mathlib.Core.Path.{_≡_};
 ghost use Prim.Native.Nat.{_+_, _≤_};
@@ -62,7 +62,7 @@ fn stray_wildcard(operator: Operator, wildcard: bool) -> bool
 }
 
 // `~=` drops the last release number, and so wants two.
-pub(crate) fn too_short(operator: Operator, count: usize) -> bool
+pub fn too_short(operator: Operator, count: usize) -> bool
     ensures { λ r. ⌜ r ≡ tooShort operator count ⌝ }
 {
     match operator {

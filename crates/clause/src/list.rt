@@ -27,7 +27,7 @@ pub fn comma_after(list: &[u8], start: usize) -> usize
     start + before_comma(&list[start..])
 }
 
-pub(crate) fn clause_at(list: &[u8], start: usize, end: usize) -> Clause
+fn clause_at(list: &[u8], start: usize, end: usize) -> Clause
     requires { ⌜ (start ≤ end) × (end ≤ length (now list)) × (length (now list) ≤ 1024) ⌝ }
     ensures { λ r. ⌜ ClauseIs (clauseAt (now (list .entry)) start end) r ⌝ }
 {

@@ -12,7 +12,7 @@ use Rattle.order.specs.Compare.{padded}
 use Rattle.order.specs.Answer.{nameOf}
 use Rattle.order.specs.declared.Order.{Order}
 use Rattle.order.specs.declared.Order.the-variants.{Equal}
-use Rattle.reading.specs.declared.fields.Version.{Version}
+use Rattle.parts.specs.declared.fields.Version.{Version}
 use Rattle.reading.specs.Value.{valueOf}
 use Rattle.compare.specs.Versions.{compareRelease}
 use Rattle.compare.proofs.Steps.{undecided}

@@ -1,14 +1,9 @@
 pub mod Anchors
 pub mod Orders
-pub mod Prefixes
-pub mod Matches
-pub mod Bounds
 pub mod Steps
 pub mod Counts
-pub mod Beginnings
 pub mod Places
 pub mod Bytes
 pub mod Labels
 pub mod Texts
 pub mod Shorts
-pub mod Nexts

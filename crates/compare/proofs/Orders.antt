@@ -13,7 +13,7 @@ use Rattle.order.proofs.Combined.{by-laws, lex-laws}
 use Rattle.order.proofs.Lists.{list-laws}
 use Rattle.order.proofs.Missing.{option-laws}
 use Rattle.order.proofs.Padded.{padded-laws}
-use Rattle.reading.specs.declared.fields.Version.{Version}
+use Rattle.parts.specs.declared.fields.Version.{Version}
 use Rattle.reading.specs.Value.{Value, valueOf}
 use Rattle.compare.specs.Key.{postOption}
 use Rattle.compare.specs.Versions.{compareRelease, compareKey, key, comparePublic, numberIn, textIn, compareLabel, compareValues}

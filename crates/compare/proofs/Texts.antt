@@ -7,7 +7,7 @@ use Rattle.answers.specs.declared.Refusal.{Refusal}
 use Rattle.order.specs.Answer.{nameOf}
 use Rattle.order.specs.declared.Order.{Order}
 use Rattle.order.specs.declared.Order.the-variants.{Equal}
-use Rattle.reading.specs.declared.fields.Version.{Version}
+use Rattle.parts.specs.declared.fields.Version.{Version}
 use Rattle.reading.specs.declared.text.Reading.{Reading}
 use Rattle.reading.specs.declared.text.Verdict.the-variants.{Accepted, Refused}
 use Rattle.reading.specs.Reading.{versionOf}

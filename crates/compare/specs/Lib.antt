@@ -2,5 +2,3 @@ pub mod Key
 pub mod Versions
 pub mod Short
 pub mod Compared
-pub mod Prefix
-pub mod Next

@@ -2,9 +2,9 @@
 use chars::spelling::PreKind;
 use order::Order;
 use order::compare_number;
-use reading::fields::Part;
-use reading::fields::Pre;
-use reading::fields::Version;
+use parts::fields::Part;
+use parts::fields::Pre;
+use parts::fields::Version;
 ghost use mathlib.Core.Path.{_≡_};
 ghost use Prim.Native.Nat.{compare};
 ghost use Rattle.order.specs.Compare.{option};
@@ -13,7 +13,7 @@ ghost use Rattle.compare.specs.Key.{preKind, kindOf, preNumber, postOpti
 ghost use Rattle.compare.specs.Versions.{compareKey};
 
 // The largest number that a version can hold.
-pub(crate) const LARGEST: u64 = 18446744073709551615;
+pub const LARGEST: u64 = 18446744073709551615;
 
 // What decides between versions of one release, in this order.
 pub struct Key {

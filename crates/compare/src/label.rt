@@ -3,7 +3,7 @@ use crate::lengths::smaller;
 use chars::case::lower;
 use order::Order;
 use order::compare_number;
-use reading::fields::Version;
+use parts::fields::Version;
 use reading::segment::Segment;
 use reading::segment::segment_bytes;
 use reading::segment::segment_of;

@@ -6,7 +6,7 @@ use crate::lengths::smaller;
 use order::Order;
 use order::compare_number;
 use order::compare_numbers;
-use reading::fields::Version;
+use parts::fields::Version;
 ghost use mathlib.Core.Path.{_≡_};
 ghost use mathlib.Core.List.{[]};
 ghost use Rattle.order.specs.Answer.{nameOf};

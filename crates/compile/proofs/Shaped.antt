@@ -9,8 +9,8 @@ use lib.Dec.{eqb, ltb}
 use lib.ListN.{length, drop, set, getD, length-set}
 use Rattle.chars.specs.Pick.{pick}
 use Rattle.chars.specs.Class.{blank, between, front}
-use Rattle.reading.specs.declared.fields.Version.{Version}
-use Rattle.reading.specs.declared.fields.Release.{Release}
+use Rattle.parts.specs.declared.fields.Version.{Version}
+use Rattle.parts.specs.declared.fields.Release.{Release}
 use Rattle.reading.specs.declared.text.Verdict.{Verdict}
 use Rattle.reading.specs.declared.text.Verdict.the-variants.{Accepted, Refused}
 use Rattle.reading.specs.Reading.{longest, patternOf}
@@ -20,9 +20,9 @@ use Rattle.roundtrip.specs.Text.{valueText}
 use Rattle.roundtrip.proofs.ReadPlaces.{by-pick}
 use Rattle.roundtrip.proofs.Read.{Shaped, pattern-shape}
 use Rattle.roundtrip.proofs.Texts.{text-of-value}
-use Rattle.compare.specs.declared.next.Next.{Next}
+use Rattle.prefixes.specs.declared.next.Next.{Next}
 use Rattle.compare.specs.Key.{largest}
-use Rattle.compare.specs.Next.{next, devZeroFields, raisedAt, nextEpoch, nextFields}
+use Rattle.prefixes.specs.Next.{next, devZeroFields, raisedAt, nextEpoch, nextFields}
 use Rattle.clause.specs.declared.operator.Operator.{Operator}
 use Rattle.clause.specs.declared.operator.Operator.the-variants.{Equal, NotEqual, Compatible, AtMost, AtLeast, Below, Above}
 use Rattle.clause.specs.declared.operator.OperatorAt.{OperatorAt}

@@ -1,7 +1,7 @@
 -- The body of an end's record, from the end's fields.
 use mathlib.Core.List.{List, []}
 use Prim.Native.Nat.{ℕ}
-use Rattle.reading.specs.declared.fields.Version.{Version}
+use Rattle.parts.specs.declared.fields.Version.{Version}
 use Rattle.normal.specs.Normal.{versionText}
 use Rattle.ends.specs.declared.end.Side.{Side}
 use Rattle.ends.specs.declared.end.Side.the-variants.{Bottom, Top, Before, After}

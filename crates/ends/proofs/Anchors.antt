@@ -7,15 +7,15 @@ use Prim.Native.Nat.{ℕ, _-_}
 use lib.ListN.{length, replicate}
 use Rattle.ranges.specs.Cut.{top, before, after}
 use Rattle.ranges.specs.Shape.{accepts}
-use Rattle.reading.specs.declared.fields.Pre.the-variants.{Absent as NoPre}
-use Rattle.reading.specs.declared.fields.Part.the-variants.{Absent as NoPart}
-use Rattle.reading.specs.declared.fields.Version.{Version}
-use Rattle.reading.specs.Fields.{noLocal}
+use Rattle.parts.specs.declared.fields.Pre.the-variants.{Absent as NoPre}
+use Rattle.parts.specs.declared.fields.Part.the-variants.{Absent as NoPart}
+use Rattle.parts.specs.declared.fields.Version.{Version}
+use Rattle.parts.specs.Fields.{noLocal}
 use Rattle.reading.specs.Value.{Value, listed, valueOf}
 use Rattle.compare.specs.Key.{largest}
 use Rattle.compare.specs.Versions.{compareRelease, compareKey, comparePublic}
-use Rattle.compare.specs.Next.{nextEpoch, nextFields}
-use Rattle.compare.specs.Prefix.{nextPrefix, devZero}
+use Rattle.prefixes.specs.Next.{nextEpoch, nextFields}
+use Rattle.prefixes.specs.Prefix.{nextPrefix, devZero}
 use Rattle.clause.specs.declared.operator.Operator.{Operator}
 use Rattle.clause.specs.declared.operator.Operator.the-variants.{Equal, NotEqual, Compatible, AtMost, AtLeast, Below, Above}
 use Rattle.ends.specs.Cut.{Place, lePlace}

@@ -3,9 +3,9 @@
 use mathlib.Core.Path.{_≡_}
 use mathlib.Core.Bool.{Bool, true, false}
 use Prim.Native.Nat.{ℕ, _-_, min}
-use Rattle.reading.specs.declared.fields.Version.{Version}
-use Rattle.compare.specs.declared.next.Next.{Next}
-use Rattle.compare.specs.Next.{startFields, nextFields}
+use Rattle.parts.specs.declared.fields.Version.{Version}
+use Rattle.prefixes.specs.declared.next.Next.{Next}
+use Rattle.prefixes.specs.Next.{startFields, nextFields}
 use Rattle.clause.specs.declared.operator.Operator.{Operator}
 use Rattle.clause.specs.declared.operator.Operator.the-variants.{Compatible}
 use Rattle.ends.specs.declared.end.Side.the-variants.{Before}

@@ -23,13 +23,13 @@ use Rattle.ranges.proofs.Plain.{
 }
 use Rattle.reading.specs.Value.{Value}
 use Rattle.compare.specs.Versions.{comparePublic}
-use Rattle.compare.specs.Prefix.{prefixMatches, shorter, prefixStart, prefixEnd, endsAbove, Held}
+use Rattle.prefixes.specs.Prefix.{prefixMatches, shorter, prefixStart, prefixEnd, endsAbove, Held}
 use Rattle.compare.proofs.Orders.{public-laws}
-use Rattle.compare.proofs.Matches.{prefix-law, prefix-proper, prefix-starts}
+use Rattle.prefixes.proofs.Matches.{prefix-law, prefix-proper, prefix-starts}
 use Rattle.clause.specs.declared.operator.Operator.{Operator}
 use Rattle.clause.specs.declared.operator.Operator.the-variants.{Equal, NotEqual, Compatible, AtMost, AtLeast, Below, Above}
 use Rattle.clause.specs.declared.clause.Clause.{Clause}
-use Rattle.clause.specs.Accept.{holds, clauseValue, clauseAccepts}
+use Rattle.accepting.specs.Accept.{holds, clauseValue, clauseAccepts}
 use Rattle.ends.specs.Cut.{lePlace}
 use Rattle.ends.specs.Shape.{endsBefore, matchStart, matchEnd, shapeOf, clauseShape}
 

@@ -11,14 +11,14 @@ use lib.Dec.{eqb}
 use lib.ListN.{length, getD, take}
 use lib.Seq.{take-suc, take-suc-set, take-take}
 use Rattle.chars.specs.Pick.{pick}
-use Rattle.reading.specs.declared.fields.Release.{Release}
-use Rattle.reading.specs.declared.fields.Version.{Version}
-use Rattle.reading.specs.Fields.{onlyNumber}
+use Rattle.parts.specs.declared.fields.Release.{Release}
+use Rattle.parts.specs.declared.fields.Version.{Version}
+use Rattle.parts.specs.Fields.{onlyNumber}
 use Rattle.reading.specs.Value.{Value, listed, valueOf}
-use Rattle.compare.specs.declared.next.Next.{Next}
+use Rattle.prefixes.specs.declared.next.Next.{Next}
 use Rattle.compare.specs.Key.{largest}
-use Rattle.compare.specs.Next.{devZeroFields, startFields, raisedAt, next, noNext, nextEpoch, nextFields}
-use Rattle.compare.specs.Prefix.{cutTo, nextRelease, raised, carried, nextPrefix, devZero, zeroed, prefixStart, prefixEnd}
+use Rattle.prefixes.specs.Next.{devZeroFields, startFields, raisedAt, next, noNext, nextEpoch, nextFields}
+use Rattle.prefixes.specs.Prefix.{cutTo, nextRelease, raised, carried, nextPrefix, devZero, zeroed, prefixStart, prefixEnd}
 
 -- the value that it says
 abbrev pub nextValue : Next → Option Value

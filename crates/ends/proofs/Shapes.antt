@@ -10,11 +10,11 @@ use lib.ListN.{length, length-take}
 use lib.Seq.{take-take}
 use Rattle.chars.specs.Pick.{pick}
 use Rattle.ranges.specs.Cut.{before}
-use Rattle.reading.specs.declared.fields.Version.{Version}
+use Rattle.parts.specs.declared.fields.Version.{Version}
 use Rattle.reading.specs.Value.{valueOf}
-use Rattle.compare.specs.declared.next.Next.{Next}
-use Rattle.compare.specs.Next.{startFields, nextFields}
-use Rattle.compare.specs.Prefix.{cutTo, shorter}
+use Rattle.prefixes.specs.declared.next.Next.{Next}
+use Rattle.prefixes.specs.Next.{startFields, nextFields}
+use Rattle.prefixes.specs.Prefix.{cutTo, shorter}
 use Rattle.clause.specs.declared.operator.Operator.{Operator}
 use Rattle.clause.specs.declared.operator.Operator.the-variants.{Equal, NotEqual, Compatible, AtMost, AtLeast, Below, Above}
 use Rattle.clause.specs.declared.clause.Clause.{Clause}

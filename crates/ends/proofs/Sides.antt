@@ -15,14 +15,27 @@ use Rattle.order.specs.Compare.{option}
 use Rattle.order.proofs.Ordering.{also-decided}
 use Rattle.order.proofs.Numbers.{compare-means, compare-is}
 use Rattle.ranges.specs.Cut.{bot, top, before, after, level, value, side}
-use Rattle.reading.specs.declared.fields.Version.{Version}
+use Rattle.parts.specs.declared.fields.Version.{Version}
 use Rattle.reading.specs.Value.{valueOf}
 use Rattle.compare.specs.Versions.{comparePublic}
 use Rattle.ends.specs.declared.end.Side.{Side}
 use Rattle.ends.specs.declared.end.Side.the-variants.{Bottom, Top, Before, After}
 use Rattle.ends.specs.declared.end.End.{End}
 use Rattle.ends.specs.Cut.{Place, lePlace}
-use Rattle.ends.specs.End.{placeAt, placeOf}
+use Rattle.ends.specs.End.{levelOf, sideOf, placeAt, placeOf}
+
+-- the level and the side of a place are those of its end
+level-is : (s : Side) (v : Version) → levelOf s ≡ level (placeAt s v)
+level-is Bottom v = refl
+level-is Top v = refl
+level-is Before v = refl
+level-is After v = refl
+
+side-is : (s : Side) (v : Version) → sideOf s ≡ side (placeAt s v)
+side-is Bottom v = refl
+side-is Top v = refl
+side-is Before v = refl
+side-is After v = refl
 
 -- below all and above all have no version and no side
 outer : (x : Place) → (level x ≡ 1 → ⊥) → (value x ≡ none) × (side x ≡ 0)
@@ -56,28 +69,34 @@ between a b = comparePublic (valueOf [] (a .version)) (valueOf [] (b .version))
 abbrev inner : Place → Place → Ordering
 inner x y = also (option comparePublic (value x) (value y)) (compare (side x) (side y))
 
-module _ (a b : End) (m n : ℕ) (e : m ≡ level (placeOf a)) (f : n ≡ level (placeOf b)) where
+module _ (a b : End) (m n : ℕ) (e : m ≡ levelOf (a .side)) (f : n ≡ levelOf (b .side)) where
+  low : m ≡ level (placeOf a)
+  low = e ∙ level-is (a .side) (a .version)
+
+  high : n ≡ level (placeOf b)
+  high = f ∙ level-is (b .side) (b .version)
+
   pub levels-decide : (m ≡ n → ⊥) → leb m n ≡ lePlace (placeOf a) (placeOf b)
-  levels-decide h = rw (← e, ← f, also-decided (compare m n) (inner (placeOf a) (placeOf b)) differ)
+  levels-decide h = rw (← low, ← high, also-decided (compare m n) (inner (placeOf a) (placeOf b)) differ)
     where
       differ : compare m n ≡ eq → ⊥
       differ g = h (rw g at (compare-means m n))
 
   module _ (g : m ≡ n) where
     same-level : lePlace (placeOf a) (placeOf b) ≡ isLe (inner (placeOf a) (placeOf b))
-    same-level = rw (← e, ← f, compare-is eq m n g)
+    same-level = rw (← low, ← high, compare-is eq m n g)
 
     pub no-versions : (m ≡ 1 → ⊥) → true ≡ lePlace (placeOf a) (placeOf b)
     no-versions h =
-        let one = outer (placeOf a) (λ k. h (e ∙ k)) in
-        let other = outer (placeOf b) (λ k. h (g ∙ f ∙ k)) in
+        let one = outer (placeOf a) (λ k. h (low ∙ k)) in
+        let other = outer (placeOf b) (λ k. h (g ∙ high ∙ k)) in
         rw (same-level, one .0, one .1, other .0, other .1)
 
     -- both stand at versions, and q is how these compare
     module _ (h : m ≡ 1) (q : Order) (k : q ≡ nameOf (between a b)) where
       by-version : lePlace (placeOf a) (placeOf b) ≡ isLe (also (between a b) (compare (side (placeOf a)) (side (placeOf b))))
       by-version =
-          rw (same-level, at-version (a .side) (a .version) (sym e ∙ h), at-version (b .side) (b .version) (sym f ∙ sym g ∙ h))
+          rw (same-level, at-version (a .side) (a .version) (sym low ∙ h), at-version (b .side) (b .version) (sym high ∙ sym g ∙ h))
 
       pub version-below : q ≡ Less → true ≡ lePlace (placeOf a) (placeOf b)
       version-below l = rw (by-version, answer q (between a b) lt k l)
@@ -85,5 +104,6 @@ module _ (a b : End) (m n : ℕ) (e : m ≡ level (placeOf a)) (f : n ≡ level 
       pub version-above : q ≡ Greater → false ≡ lePlace (placeOf a) (placeOf b)
       version-above l = rw (by-version, answer q (between a b) gt k l)
 
-      pub by-side : (s t : ℕ) → q ≡ Equal → s ≡ side (placeOf a) → t ≡ side (placeOf b) → leb s t ≡ lePlace (placeOf a) (placeOf b)
-      by-side s t l i j = rw (by-version, answer q (between a b) eq k l, i, j)
+      pub by-side : (s t : ℕ) → q ≡ Equal → s ≡ sideOf (a .side) → t ≡ sideOf (b .side) → leb s t ≡ lePlace (placeOf a) (placeOf b)
+      by-side s t l i j =
+          rw (by-version, answer q (between a b) eq k l, i ∙ side-is (a .side) (a .version), j ∙ side-is (b .side) (b .version))

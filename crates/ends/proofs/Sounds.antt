@@ -10,7 +10,7 @@ use lib.ListN.{length, drop, length-take}
 use borrow.Author.Tests.{eqb-true, eqb-false}
 use Rattle.order.specs.All.{All}
 use Rattle.chars.specs.Class.{blank, between, front}
-use Rattle.reading.specs.declared.fields.Version.{Version}
+use Rattle.parts.specs.declared.fields.Version.{Version}
 use Rattle.reading.specs.declared.text.Verdict.{Verdict}
 use Rattle.reading.specs.declared.text.Verdict.the-variants.{Accepted, Refused}
 use Rattle.reading.specs.Reading.{longest, patternOf}

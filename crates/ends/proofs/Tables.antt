@@ -20,13 +20,13 @@ use Rattle.ranges.proofs.Table.{is-table, one-table}
 use Rattle.ranges.proofs.Longest.{table-longest}
 use Rattle.reading.specs.Value.{Value}
 use Rattle.compare.specs.Versions.{comparePublic}
-use Rattle.compare.specs.Prefix.{Held}
+use Rattle.prefixes.specs.Prefix.{Held}
 use Rattle.compare.proofs.Orders.{public-laws}
 use Rattle.roundtrip.proofs.ReadPlaces.{by-pick}
 use Rattle.clause.specs.declared.operator.Operator.{Operator}
 use Rattle.clause.specs.declared.operator.Operator.the-variants.{Equal, NotEqual, Compatible, AtMost, AtLeast, Below, Above}
 use Rattle.clause.specs.declared.clause.Clause.{Clause}
-use Rattle.clause.specs.Accept.{clauseValue, allAccept}
+use Rattle.accepting.specs.Accept.{clauseValue, allAccept}
 use Rattle.clause.specs.List.{clauses, listOf}
 use Rattle.ends.specs.Cut.{Place, lePlace}
 use Rattle.ends.specs.End.{hollow}

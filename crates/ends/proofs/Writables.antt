@@ -15,13 +15,13 @@ use Rattle.ranges.specs.Cut.{bot, top, before, after}
 use Rattle.ranges.specs.Shape.{lowerEnd, upperEnd}
 use Rattle.reading.specs.Value.{Value}
 use Rattle.compare.specs.Key.{largest}
-use Rattle.compare.specs.Prefix.{shorter, raised, nextRelease, carried, nextPrefix, devZero, zeroed, prefixStart}
+use Rattle.prefixes.specs.Prefix.{shorter, raised, nextRelease, carried, nextPrefix, devZero, zeroed, prefixStart}
 use Rattle.roundtrip.specs.Readable.{Fits}
 use Rattle.roundtrip.proofs.ReadPlaces.{by-pick}
 use Rattle.clause.specs.declared.operator.Operator.{Operator}
 use Rattle.clause.specs.declared.operator.Operator.the-variants.{Equal, NotEqual, Compatible, AtMost, AtLeast, Below, Above}
 use Rattle.clause.specs.declared.clause.Clause.{Clause}
-use Rattle.clause.specs.Accept.{clauseValue}
+use Rattle.accepting.specs.Accept.{clauseValue}
 use Rattle.ends.specs.Cut.{Place}
 use Rattle.ends.specs.Shape.{endsBefore, matchEnd, shapeOf, clauseShape}
 use Rattle.ends.specs.Sound.{Sound}

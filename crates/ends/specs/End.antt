@@ -4,11 +4,11 @@ use mathlib.Core.List.{[]}
 use Prim.Native.Nat.{ℕ, _-_, min}
 use Rattle.chars.specs.Pick.{pick}
 use Rattle.ranges.specs.Cut.{bot, top, before, after}
-use Rattle.reading.specs.declared.fields.Version.{Version}
-use Rattle.reading.specs.Reading.{noVersion}
+use Rattle.parts.specs.declared.fields.Version.{Version}
+use Rattle.parts.specs.Fields.{noVersion}
 use Rattle.reading.specs.Value.{valueOf}
-use Rattle.compare.specs.declared.next.Next.{Next}
-use Rattle.compare.specs.Next.{startFields, nextFields}
+use Rattle.prefixes.specs.declared.next.Next.{Next}
+use Rattle.prefixes.specs.Next.{startFields, nextFields}
 use Rattle.clause.specs.declared.operator.Operator.{Operator}
 use Rattle.clause.specs.declared.operator.Operator.the-variants.{Equal, NotEqual, Compatible, AtMost, AtLeast, Below, Above}
 use Rattle.clause.specs.declared.clause.Clause.{Clause}
@@ -16,6 +16,19 @@ use Rattle.ends.specs.declared.end.Side.{Side}
 use Rattle.ends.specs.declared.end.Side.the-variants.{Bottom, Top, Before, After}
 use Rattle.ends.specs.declared.end.End.{End}
 use Rattle.ends.specs.Cut.{Place}
+
+-- below all, at a version, above all; and before a version or after it
+abbrev pub levelOf : Side → ℕ
+levelOf Bottom = 0
+levelOf Top = 2
+levelOf Before = 1
+levelOf After = 1
+
+abbrev pub sideOf : Side → ℕ
+sideOf Bottom = 0
+sideOf Top = 0
+sideOf Before = 0
+sideOf After = 1
 
 abbrev pub placeAt : Side → Version → Place
 placeAt Bottom v = bot

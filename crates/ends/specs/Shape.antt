@@ -10,11 +10,11 @@ use Rattle.ranges.specs.Shape.{Shape, span, hole}
 use Rattle.ranges.specs.Plain.{equalTo, otherThan, upTo, from, below, above}
 use Rattle.ranges.specs.Compile.{table}
 use Rattle.reading.specs.Value.{Value}
-use Rattle.compare.specs.Prefix.{prefixStart, prefixEnd, shorter}
+use Rattle.prefixes.specs.Prefix.{prefixStart, prefixEnd, shorter}
 use Rattle.clause.specs.declared.operator.Operator.{Operator}
 use Rattle.clause.specs.declared.operator.Operator.the-variants.{Equal, NotEqual, Compatible, AtMost, AtLeast, Below, Above}
 use Rattle.clause.specs.declared.clause.Clause.{Clause}
-use Rattle.clause.specs.Accept.{clauseValue}
+use Rattle.accepting.specs.Accept.{clauseValue}
 use Rattle.ends.specs.Cut.{Place, lePlace}
 use Rattle.ends.specs.End.{hollow}
 

@@ -6,7 +6,7 @@ use lib.ListN.{length}
 use Rattle.roundtrip.specs.Readable.{Readable}
 use Rattle.clause.specs.declared.operator.Operator.the-variants.{Compatible}
 use Rattle.clause.specs.declared.clause.Clause.{Clause}
-use Rattle.clause.specs.Accept.{clauseValue}
+use Rattle.accepting.specs.Accept.{clauseValue}
 
 -- a version that can be written, without a label; behind `~=` it has two release numbers
 pub record Sound (c : Clause) : Type 0 where

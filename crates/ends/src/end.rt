@@ -1,11 +1,10 @@
 // One end of a range.
 use compare::version::compare_public;
 use order::Order;
-use reading::fields::Version;
+use parts::fields::Version;
 ghost use mathlib.Core.Path.{_≡_};
-ghost use Rattle.ranges.specs.Cut.{level, side};
 ghost use Rattle.ends.specs.Cut.{lePlace};
-ghost use Rattle.ends.specs.End.{placeOf, bottom, topmost};
+ghost use Rattle.ends.specs.End.{levelOf, sideOf, placeOf, bottom, topmost};
 
 // Below all versions, above all, right before a version, or right after it.
 pub enum Side {
@@ -41,10 +40,10 @@ impl End {
     }
 }
 
-fn level_of(end: End) -> u64
-    ensures { λ r. ⌜ r ≡ level (placeOf end) ⌝ }
+// Below all, at a version, above all.
+pub fn level_of(side: Side) -> u64
+    ensures { λ r. ⌜ r ≡ levelOf side ⌝ }
 {
-    let side = end.side;
     match side {
         Side::Bottom => 0,
         Side::Top => 2,
@@ -53,10 +52,10 @@ fn level_of(end: End) -> u64
     }
 }
 
-fn side_of(end: End) -> u64
-    ensures { λ r. ⌜ r ≡ side (placeOf end) ⌝ }
+// Before a version or after it.
+pub fn side_of(side: Side) -> u64
+    ensures { λ r. ⌜ r ≡ sideOf side ⌝ }
 {
-    let side = end.side;
     match side {
         Side::Bottom => 0,
         Side::Top => 0,
@@ -69,8 +68,10 @@ fn side_of(end: End) -> u64
 pub fn at_most(a: End, b: End) -> bool
     ensures { λ r. ⌜ r ≡ lePlace (placeOf a) (placeOf b) ⌝ }
 {
-    let low = level_of(a);
-    let high = level_of(b);
+    let one = a.side;
+    let other = b.side;
+    let low = level_of(one);
+    let high = level_of(other);
     if low != high {
         return low <= high;
     }
@@ -82,7 +83,7 @@ pub fn at_most(a: End, b: End) -> bool
     let order = compare_public(v, w);
     match order {
         Order::Less => true,
-        Order::Equal => side_of(a) <= side_of(b),
+        Order::Equal => side_of(one) <= side_of(other),
         Order::Greater => false,
     }
 }

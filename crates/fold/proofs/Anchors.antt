@@ -10,14 +10,14 @@ use Rattle.chars.specs.Case.{lowerOf, startsWith}
 use Rattle.chars.specs.Spelling.{shortPreSpelling, preSpelling, postSpelling, devSpelling}
 use Rattle.decimal.specs.Parse.{digitOf, valueFrom, numberOf, leadingOf}
 use Rattle.ranges.specs.Range.{Range}
-use Rattle.reading.specs.Places.{separatorEnd, numberAt, markedNumber}
-use Rattle.reading.specs.Head.{leadEnd, releaseFrom, afterEpoch, headAt, headOf}
-use Rattle.reading.specs.Suffix.{numberOrZero, preAt, spelledPost, postAt, devAt, suffixAt}
+use Rattle.parts.specs.Places.{separatorEnd, numberAt, markedNumber}
+use Rattle.parts.specs.Head.{leadEnd, releaseFrom, afterEpoch, headAt, headOf}
+use Rattle.parts.specs.Suffix.{numberOrZero, preAt, spelledPost, postAt, devAt, suffixAt}
 use Rattle.reading.specs.Label.{wordEnd, segmentsFrom, labelAt}
 use Rattle.reading.specs.Reading.{starred, afterRelease, afterSuffix, patternAs}
 use Rattle.reading.specs.Value.{valueOf}
 use Rattle.compare.specs.Versions.{compareRelease, compareKey, comparePublic}
-use Rattle.compare.specs.Next.{nextEpoch, nextFields}
+use Rattle.prefixes.specs.Next.{nextEpoch, nextFields}
 use Rattle.clause.specs.Operator.{orderOf, operatorOf}
 use Rattle.clause.specs.Trim.{trimmedLength, beforeComma}
 use Rattle.clause.specs.Clause.{judged, patternClause, trimmedClause, clauseOf}

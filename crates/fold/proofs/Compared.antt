@@ -13,8 +13,8 @@ use Rattle.order.proofs.Numbers.{number-laws}
 use Rattle.order.proofs.Derived.{reflexive, eq-left, eq-right}
 use Rattle.order.proofs.Padded.{padded-laws}
 use Rattle.ranges.specs.Cut.{bot, top, before, after, compareCuts}
-use Rattle.reading.specs.declared.fields.Part.{Part}
-use Rattle.reading.specs.declared.fields.Part.the-variants.{Absent as NoPart, Is as IsPart}
+use Rattle.parts.specs.declared.fields.Part.{Part}
+use Rattle.parts.specs.declared.fields.Part.the-variants.{Absent as NoPart, Is as IsPart}
 use Rattle.reading.specs.Value.{Value}
 use Rattle.compare.specs.declared.key.Key.{Key}
 use Rattle.compare.specs.Key.{postOption}

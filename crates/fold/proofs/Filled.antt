@@ -9,7 +9,7 @@ use native.Mathlib.Omega.{arith}
 use lib.ListN.{length, take, drop, getD, set, replicate, length-replicate}
 use lib.Seq.{paste, paste-suc, length-take-le, drop-append-le}
 use borrow.Author.Needs.{length-unmapped}
-use Rattle.reading.specs.declared.fields.Version.{Version}
+use Rattle.parts.specs.declared.fields.Version.{Version}
 use Rattle.reading.specs.Value.{valueOf}
 use Rattle.compare.specs.declared.key.Key.{Key}
 use Rattle.compare.specs.Key.{keyOf}

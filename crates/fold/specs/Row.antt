@@ -8,8 +8,8 @@ use lib.Seq.{paste}
 use Rattle.order.specs.Compare.{padded}
 use Rattle.order.specs.Preorder.{atMost}
 use Rattle.ranges.specs.Cut.{bot, top, before, after}
-use Rattle.reading.specs.declared.fields.Part.{Part}
-use Rattle.reading.specs.declared.fields.Part.the-variants.{Absent as NoPart, Is as IsPart}
+use Rattle.parts.specs.declared.fields.Part.{Part}
+use Rattle.parts.specs.declared.fields.Part.the-variants.{Absent as NoPart, Is as IsPart}
 use Rattle.reading.specs.Value.{Value}
 use Rattle.compare.specs.declared.key.Key.{Key}
 use Rattle.compare.specs.Versions.{key}

@@ -1,5 +1,1 @@
-pub mod Rows
-pub mod Shorts
 pub mod Segments
-pub mod Tells
-pub mod Words

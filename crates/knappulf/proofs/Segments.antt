@@ -11,15 +11,15 @@ use borrow.Author.Tests.{leb-false, ltb-false}
 use Rattle.chars.specs.Class.{front}
 use Rattle.chars.specs.Pick.{pick}
 use Rattle.decimal.specs.Parse.{numberOf, valueFrom}
-use Rattle.reading.specs.declared.fields.Span.{Span}
+use Rattle.parts.specs.declared.fields.Span.{Span}
 use Rattle.reading.specs.declared.segment.Segment.{Segment}
 use Rattle.reading.specs.declared.segment.Segment.the-variants.{Number as IsNumber, Text}
 use Rattle.reading.specs.declared.text.Reading.{Reading}
-use Rattle.reading.specs.Fields.{noSpan}
+use Rattle.parts.specs.Fields.{noSpan}
 use Rattle.reading.specs.Reading.{versionOf}
 use Rattle.reading.specs.Segment.{segmentOf, segmentBytes, segmentText, spanned, textOnly}
 use Rattle.reading.proofs.Segments.{text-missing, text-there}
-use Rattle.knappulf.specs.Fields.{spanAt, startOf, segmentStart}
+use Rattle.boundary.specs.Fields.{spanAt, startOf, segmentStart}
 
 -- as many bytes of a list as a front of it has are that front
 front-of : (n : ℕ) (l : List ℕ) → take (length (take n l)) l ≡ take n l

@@ -1,19 +1,15 @@
 // The entry points for C. Each returns a refusal's number, 0 for none, and leaves a value, a place and which text in the lent answer.
-pub mod fields;
-pub mod pair;
-pub mod said;
-
-use crate::fields::put_accepted;
-use crate::fields::put_short;
-use crate::fields::span_at;
-use crate::said::of_accepts;
-use crate::said::of_checked;
-use crate::said::of_compared;
-use crate::said::of_looked;
-use crate::said::of_verdict;
-use crate::said::of_worded;
-use crate::said::of_written;
-use crate::said::tell;
+use boundary::fields::put_accepted;
+use boundary::fields::put_short;
+use boundary::fields::span_at;
+use boundary::said::of_accepts;
+use boundary::said::of_checked;
+use boundary::said::of_compared;
+use boundary::said::of_looked;
+use boundary::said::of_verdict;
+use boundary::said::of_worded;
+use boundary::said::of_written;
+use boundary::said::tell;
 use reading::segment::Segment;
 use reading::segment::segment_bytes;
 use reading::segment::segment_of;
@@ -28,11 +24,11 @@ ghost use Rattle.normal.specs.Normal.{answerTo, filledTo, normalText};
 ghost use Rattle.compare.specs.Compared.{compared};
 ghost use Rattle.word.specs.Worded.{wordAnswer};
 ghost use Rattle.clause.specs.List.{checked, listOf};
-ghost use Rattle.clause.specs.Accept.{accepted};
+ghost use Rattle.accepting.specs.Accept.{accepted};
 ghost use Rattle.compile.specs.Compiled as compiled;
 ghost use Rattle.table.specs.Lookup.{looked};
-ghost use Rattle.knappulf.specs.Fields.{fieldsBy, segmentStart};
-ghost use Rattle.knappulf.specs.Said.{Told, ofVerdict, ofWritten, ofCompared, ofWorded, ofChecked, ofAccepts, ofLooked};
+ghost use Rattle.boundary.specs.Fields.{fieldsBy, segmentStart};
+ghost use Rattle.boundary.specs.Said.{Told, ofVerdict, ofWritten, ofCompared, ofWorded, ofChecked, ofAccepts, ofLooked};
 
 // The fields of a version. A refused text leaves them as they were.
 #[no_mangle]
@@ -129,7 +125,7 @@ pub extern "C" fn knappulf_check(list: &[u8], answer: &mut [u64; 3]) -> u8
 pub extern "C" fn knappulf_accepts(list: &[u8], version: &[u8], answer: &mut [u64; 3]) -> u8
     ensures { λ r. ⌜ Told (ofAccepts (accepted (now (list .entry)) (now (version .entry)))) (now (answer .exit)) r ⌝ }
 {
-    tell(of_accepts(clause::accepts(list, version)), answer)
+    tell(of_accepts(accepting::accepts(list, version)), answer)
 }
 
 // The range table of a list, in front of a buffer; the value is its length.
@@ -146,5 +142,5 @@ pub extern "C" fn knappulf_compile(list: &[u8], buffer: &mut [u8], answer: &mut 
 pub extern "C" fn knappulf_lookup(table: &[u8], version: &[u8], answer: &mut [u64; 3]) -> u8
     ensures { λ r. ⌜ Told (ofLooked (looked (now (table .entry)) (now (version .entry)))) (now (answer .exit)) r ⌝ }
 {
-    tell(of_looked(table::lookup::lookup(table, version)), answer)
+    tell(of_looked(seek::lookup(table, version)), answer)
 }

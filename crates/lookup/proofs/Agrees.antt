@@ -5,7 +5,7 @@ use mathlib.Core.List.{List}
 use Prim.Native.Nat.{ℕ}
 use lib.ListN.{take}
 use Rattle.answers.specs.declared.Written.the-variants.{Length}
-use Rattle.clause.specs.Accept.{accepted}
+use Rattle.accepting.specs.Accept.{accepted}
 use Rattle.compile.specs.Compiled.{Compiled}
 use Rattle.table.specs.Lookup.{looked}
 use Rattle.agreement.specs.Agree.{asLooked}

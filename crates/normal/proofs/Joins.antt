@@ -9,8 +9,8 @@ use lib.ListN.{length, getD}
 use Rattle.decimal.specs.Put.{Wrote}
 use Rattle.decimal.proofs.Puts.{nothing, then, retext, same-size}
 use Rattle.decimal.specs.Digits.{decimal}
-use Rattle.reading.specs.declared.fields.Release.{Release}
-use Rattle.reading.specs.declared.fields.Local.{Local}
+use Rattle.parts.specs.declared.fields.Release.{Release}
+use Rattle.parts.specs.declared.fields.Local.{Local}
 use Rattle.reading.specs.Segment.{segmentBytes}
 use Rattle.normal.specs.Normal.{dotted, joined, releaseText, segmentText, labelled, labelText}
 

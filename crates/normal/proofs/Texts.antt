@@ -17,10 +17,10 @@ use Rattle.decimal.specs.Digits.{decimal}
 use Rattle.chars.proofs.Beginnings.{lowered-length}
 use Rattle.decimal.specs.Put.{farthest, onward, Wrote}
 use Rattle.decimal.proofs.Puts.{nothing, all-out, then, retext}
-use Rattle.reading.specs.declared.fields.Pre.{Pre}
-use Rattle.reading.specs.declared.fields.Pre.the-variants.{Absent as NoPre, Is as IsPre}
-use Rattle.reading.specs.declared.fields.Part.{Part}
-use Rattle.reading.specs.declared.fields.Part.the-variants.{Absent as NoPart, Is as IsPart}
+use Rattle.parts.specs.declared.fields.Pre.{Pre}
+use Rattle.parts.specs.declared.fields.Pre.the-variants.{Absent as NoPre, Is as IsPre}
+use Rattle.parts.specs.declared.fields.Part.{Part}
+use Rattle.parts.specs.declared.fields.Part.the-variants.{Absent as NoPart, Is as IsPart}
 use Rattle.reading.specs.declared.segment.Segment.{Segment}
 use Rattle.reading.specs.declared.segment.Segment.the-variants.{Number, Text}
 use Rattle.reading.specs.Segment.{segmentOf}

@@ -4,7 +4,7 @@ use chars::case::lower;
 use decimal::put::further;
 use decimal::put::put_byte;
 use decimal::put::put_number;
-use reading::fields::Local;
+use parts::fields::Local;
 use reading::segment::Segment;
 use reading::segment::segment_bytes;
 use reading::segment::segment_of;

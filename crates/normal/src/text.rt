@@ -6,7 +6,7 @@ use crate::numbers::put_pre;
 use crate::numbers::put_release;
 use answers::Refusal;
 use answers::Written;
-use reading::fields::Version;
+use parts::fields::Version;
 use reading::text::Verdict;
 use reading::text::read_version;
 ghost use Rattle.answers.specs.Written.{Printed};

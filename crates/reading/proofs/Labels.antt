@@ -1,6 +1,6 @@
 -- The ways of the functions that read the label: rule 8.
 -- Assumes nothing.
-use mathlib.Core.Path.{_≡_, refl, sym, _∙_}
+use mathlib.Core.Path.{_≡_, sym, _∙_}
 use mathlib.Core.List.{List}
 use Prim.Native.Nat.{ℕ, zero, suc, _+_, _-_, _≤_}
 use native.Mathlib.Omega.{arith}
@@ -9,10 +9,10 @@ use borrow.Author.Tests.{eq-eqb, ne-eqb}
 use Rattle.chars.specs.Class.{digit, letter, between, front}
 use Rattle.chars.proofs.Cases.{no-is}
 use Rattle.chars.proofs.Parts.{take-rest}
-use Rattle.reading.specs.declared.fields.Local.{Local}
+use Rattle.parts.specs.declared.fields.Local.{Local}
+use Rattle.parts.specs.Fields.{noLocal, pushedSpan}
+use Rattle.parts.specs.Places.{separatorEnd}
 use Rattle.reading.specs.declared.label.Label.{Label}
-use Rattle.reading.specs.Fields.{noLocal, pushedSpan}
-use Rattle.reading.specs.Places.{separatorEnd}
 use Rattle.reading.specs.Label.{wordEnd, spanning, labelRead, labelRefused, segmentsFrom, labelAt}
 
 pub word-is : (s : List ℕ) (at r : ℕ) → r ≡ front (between digit letter) (take (length s - at) (drop at s)) → at + r ≡ wordEnd s at

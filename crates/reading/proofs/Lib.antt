@@ -1,6 +1,4 @@
-pub mod AtPlaces
-pub mod Heads
-pub mod Suffixes
+pub mod Anchors
 pub mod Labels
 pub mod Wholes
 pub mod Shorts

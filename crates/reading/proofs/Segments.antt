@@ -1,6 +1,6 @@
 -- The ways of the functions that look at one segment of a label.
 -- Assumes nothing.
-use mathlib.Core.Path.{_≡_, refl, sym, _∙_}
+use mathlib.Core.Path.{_≡_, refl}
 use mathlib.Core.List.{List, []}
 use Prim.Native.Nat.{ℕ}
 use lib.ListN.{length}
@@ -8,7 +8,7 @@ use Rattle.chars.proofs.Cases.{yes-is, no-is}
 use Rattle.decimal.specs.declared.parse.Number.{Number}
 use Rattle.decimal.specs.declared.parse.Number.the-variants.{Value, TooBig}
 use Rattle.decimal.specs.Parse.{numberOf, digitsOf}
-use Rattle.reading.specs.declared.fields.Local.{Local}
+use Rattle.parts.specs.declared.fields.Local.{Local}
 use Rattle.reading.specs.declared.segment.Segment.{Segment}
 use Rattle.reading.specs.declared.segment.Segment.the-variants.{Number as IsNumber, Text}
 use Rattle.reading.specs.declared.text.Reading.{Reading}

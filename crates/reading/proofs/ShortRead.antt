@@ -3,38 +3,36 @@
 use mathlib.Core.Path.{_≡_, refl, sym, _∙_}
 use mathlib.Core.Bool.{Bool, true, false, true≢false}
 use mathlib.Core.List.{List, [], _∷_}
-use Prim.Native.Nat.{ℕ, zero, suc, _+_, _≤_, _<_}
+use Prim.Native.Nat.{ℕ, suc, _+_, _≤_}
 use native.Mathlib.Nat.{add-zero}
 use native.Mathlib.Omega.{arith}
 use lib.Dec.{eqb, ltb, leb}
-use lib.ListN.{length, getD, drop, drop-of-length-le, List·getD-eq-default}
+use lib.ListN.{length, getD, drop}
 use borrow.Author.Tests.{eqb-true, eqb-false, le-ltb, le-leb, lt-leb, ne-eqb, leb-true}
 use Rattle.chars.specs.Pick.{pick}
 use Rattle.chars.specs.Class.{isLetter, isSeparator, isBlank, classOf, inRange, between, front}
-use Rattle.chars.specs.Case.{lowerOf, startsWith, beginningOf}
-use Rattle.chars.specs.Spelling.{preSpelling, shortPreSpelling, postSpelling, devSpelling}
+use Rattle.chars.specs.Case.{lowerOf, startsWith}
 use Rattle.decimal.specs.Parse.{leadingOf}
-use Rattle.reading.specs.declared.fields.Release.{Release}
-use Rattle.reading.specs.declared.fields.Pre.{Pre}
-use Rattle.reading.specs.declared.fields.Pre.the-variants.{Absent as NoPre}
-use Rattle.reading.specs.declared.fields.Part.{Part}
-use Rattle.reading.specs.declared.fields.Part.the-variants.{Absent as NoPart}
-use Rattle.reading.specs.declared.fields.Version.{Version}
+use Rattle.parts.specs.declared.fields.Release.{Release}
+use Rattle.parts.specs.declared.fields.Pre.{Pre}
+use Rattle.parts.specs.declared.fields.Pre.the-variants.{Absent as NoPre}
+use Rattle.parts.specs.declared.fields.Part.{Part}
+use Rattle.parts.specs.declared.fields.Part.the-variants.{Absent as NoPart}
+use Rattle.parts.specs.declared.fields.Version.{Version}
+use Rattle.parts.specs.declared.places.NumberAt.{NumberAt}
+use Rattle.parts.specs.declared.places.NumberAt.the-variants.{Absent, Read, TooBig}
+use Rattle.parts.specs.declared.head.Head.{Head}
+use Rattle.parts.specs.declared.suffix.Suffix.{Suffix}
+use Rattle.parts.specs.declared.suffix.Suffix.the-variants.{Read as SuffixRead, TooBig as SuffixTooBig}
+use Rattle.parts.specs.Fields.{noLocal, onlyNumber, pushedNumber}
+use Rattle.parts.specs.Places.{numberAt, markedNumber, onNumber}
+use Rattle.parts.specs.Head.{leadEnd, headRead, headRefused, releaseFrom, afterEpoch, headAt, headOf}
+use Rattle.parts.specs.Suffix.{suffixAt}
+use Rattle.parts.proofs.Ended.{gone, zero-there, suffix-ended}
 use Rattle.reading.specs.declared.short.Short.{Short}
-use Rattle.reading.specs.declared.places.NumberAt.{NumberAt}
-use Rattle.reading.specs.declared.places.NumberAt.the-variants.{Absent, Read, TooBig}
-use Rattle.reading.specs.declared.head.Head.{Head}
-use Rattle.reading.specs.declared.suffix.PreStep.the-variants.{Read as PreIs}
-use Rattle.reading.specs.declared.suffix.PartStep.the-variants.{Read as PartIs}
-use Rattle.reading.specs.declared.suffix.Suffix.{Suffix}
-use Rattle.reading.specs.declared.suffix.Suffix.the-variants.{Read as SuffixRead, TooBig as SuffixTooBig}
 use Rattle.reading.specs.declared.short.ShortHead.{ShortHead}
 use Rattle.reading.specs.declared.short.ShortReading.{ShortReading}
 use Rattle.reading.specs.declared.text.PatternReading.{PatternReading}
-use Rattle.reading.specs.Fields.{noLocal, onlyNumber, pushedNumber}
-use Rattle.reading.specs.Places.{numberAt, markedNumber, onNumber, separatorEnd}
-use Rattle.reading.specs.Head.{leadEnd, headRead, headRefused, releaseFrom, afterEpoch, headAt, headOf}
-use Rattle.reading.specs.Suffix.{preAt, spelledPost, postAt, devAt, suffixAt}
 use Rattle.reading.specs.Label.{labelAt}
 use Rattle.reading.specs.Reading.{refusedWith, fielded, accepted, starred, afterSuffix, suffixed, afterRelease, afterHead, patternAs}
 use Rattle.reading.specs.Short.{
@@ -140,36 +138,10 @@ no-lead (b ∷ t) a next e = go (between 3 3 b) refl e
         rw (digit-class b low high, lt-leb 65 b (omega arith), ne-eqb b 118 (λ q. absurd (omega arith)))
 
 -- a text that has ended
-module _ (s : List ℕ) (at : ℕ) (h : length s ≤ at) where
-  gone : drop at s ≡ []
-  gone = drop-of-length-le s h
-
-  zero-there : getD s at 0 ≡ 0
-  zero-there = List·getD-eq-default s 0 h
-
-  no-separator : separatorEnd s at ≡ at
-  unfolding separatorEnd classOf
-  no-separator = rw zero-there
-
-  pre-ended : preAt s at ≡ PreIs NoPre at
-  unfolding preAt preSpelling shortPreSpelling beginningOf startsWith
-  pre-ended = rw (no-separator, gone)
-
-  post-ended : postAt s at ≡ PartIs NoPart at
-  unfolding postAt spelledPost markedNumber postSpelling beginningOf startsWith
-  post-ended = rw zero-there (rw (no-separator, gone))
-
-  dev-ended : devAt s at ≡ PartIs NoPart at
-  unfolding devAt devSpelling beginningOf startsWith
-  dev-ended = rw (no-separator, gone)
-
-  suffix-ended : suffixAt s at ≡ SuffixRead NoPre NoPart NoPart at
-  unfolding suffixAt
-  suffix-ended = rw pre-ended (rw post-ended (rw dev-ended))
-
-  rest-ended : (x : Head) (pre : Pre) (post dev : Part) → afterSuffix s x pre post dev at ≡ accepted false (fielded x pre post dev noLocal)
-  unfolding afterSuffix labelAt front
-  rest-ended x pre post dev = rw (zero-there, gone, add-zero at, le-ltb at (length s) h)
+rest-ended : (s : List ℕ) (at : ℕ) → length s ≤ at → (x : Head) (pre : Pre) (post dev : Part) →
+    afterSuffix s x pre post dev at ≡ accepted false (fielded x pre post dev noLocal)
+unfolding afterSuffix labelAt front
+rest-ended s at h x pre post dev = rw (zero-there s at h, gone s at h, add-zero at, le-ltb at (length s) h)
 
 -- the head that was found is the one that the rules read
 head-found : (s : List ℕ) → Heads (headOf s) (shortHeadOf s)

@@ -1,28 +1,31 @@
 -- The ways of the functions that read a short version, and that what they find is what the rules read.
 -- Assumes nothing.
-use mathlib.Core.Path.{_≡_, refl, sym, _∙_}
-use mathlib.Core.Bool.{Bool, true, false}
+use mathlib.Core.Path.{_≡_}
 use mathlib.Core.List.{List, [], _∷_}
-use Prim.Native.Nat.{ℕ, _+_, _-_, _≤_}
-use native.Mathlib.Omega.{arith}
-use lib.Dec.{eqb, ltb}
-use lib.ListN.{length, getD, take, drop, drop-of-length-le}
-use borrow.Author.Tests.{eqb-true}
-use Rattle.chars.specs.Pick.{pick}
-use Rattle.chars.specs.Case.{beginningOf, startsWith}
+use Prim.Native.Nat.{ℕ, _-_, _≤_}
+use lib.ListN.{length, take, drop}
+use Rattle.chars.specs.Case.{beginningOf}
 use Rattle.chars.proofs.Cases.{no-lt, yes-eq, no-eq, yes-flag, no-flag}
 use Rattle.chars.proofs.Beginnings.{begun, not-begun}
 use Rattle.chars.proofs.Parts.{take-rest}
-use Rattle.reading.specs.declared.fields.Pre.{Pre}
-use Rattle.reading.specs.declared.fields.Pre.the-variants.{Absent as NoPre}
-use Rattle.reading.specs.declared.fields.Part.{Part}
-use Rattle.reading.specs.declared.fields.Part.the-variants.{Absent as NoPart}
-use Rattle.reading.specs.declared.suffix.Suffix.{Suffix}
-use Rattle.reading.specs.declared.suffix.Suffix.the-variants.{Read as SuffixRead, TooBig as SuffixTooBig}
+use Rattle.parts.specs.declared.fields.Pre.{Pre}
+use Rattle.parts.specs.declared.fields.Pre.the-variants.{Absent as NoPre}
+use Rattle.parts.specs.declared.fields.Part.{Part}
+use Rattle.parts.specs.declared.fields.Part.the-variants.{Absent as NoPart}
+use Rattle.parts.specs.declared.suffix.Suffix.{Suffix}
+use Rattle.parts.specs.declared.suffix.Suffix.the-variants.{Read as SuffixRead, TooBig as SuffixTooBig}
+use Rattle.parts.specs.Suffix.{suffixAt}
 use Rattle.reading.specs.declared.short.ShortHead.{ShortHead}
 use Rattle.reading.specs.declared.short.ShortReading.{ShortReading}
-use Rattle.reading.specs.Suffix.{suffixAt}
-use Rattle.reading.specs.Short.{foundWith, notShort, shortHeadOf, shortAt, shortOf}
+use Rattle.reading.specs.Short.{Filled, FilledShort, foundWith, notShort, shortHeadOf, shortAt, shortOf}
+
+-- what is found has the numbers of its head
+module _ (h : ShortHead) (pre : Pre) (post dev : Part) (q : ShortReading) (e : q ≡ foundWith h pre post dev) where
+  pub found-few : h .count ≤ 4 → q .short .count ≤ 4
+  found-few few = rw e few
+
+  pub found-filled : Filled (h .count) (h .first) (h .second) (h .third) (h .fourth) → FilledShort (q .short)
+  found-filled filled = rw e filled
 
 -- behind the head: the text ends there
 pub short-bare : (s : List ℕ) (h : ShortHead) (q : ShortReading) → h .at ≡ length s → q ≡ foundWith h NoPre NoPart NoPart → q ≡ shortAt s h

@@ -1,25 +1,25 @@
 -- The ways of the functions that read a whole text.
 -- Assumes nothing.
-use mathlib.Core.Path.{_≡_, refl, sym, _∙_}
-use mathlib.Core.Bool.{Bool, true, false}
+use mathlib.Core.Path.{_≡_, refl}
+use mathlib.Core.Bool.{Bool, false}
 use mathlib.Core.List.{List, [], _∷_}
 use Prim.Native.Nat.{ℕ, _+_, _-_, _≤_, _<_}
 use native.Mathlib.Omega.{arith}
 use lib.ListN.{length, take, drop, length-drop}
 use Rattle.chars.specs.Class.{blank, between, front}
-use Rattle.chars.specs.Case.{startsWith, beginningOf}
+use Rattle.chars.specs.Case.{beginningOf}
 use Rattle.chars.proofs.Cases.{yes-flag, no-flag, yes-eq, no-eq, yes-lt, no-lt}
 use Rattle.chars.proofs.Beginnings.{begun, not-begun}
 use Rattle.chars.proofs.Parts.{take-rest}
-use Rattle.reading.specs.declared.fields.Pre.{Pre}
-use Rattle.reading.specs.declared.fields.Part.{Part}
-use Rattle.reading.specs.declared.head.Head.{Head}
-use Rattle.reading.specs.declared.suffix.Suffix.{Suffix}
-use Rattle.reading.specs.declared.suffix.Suffix.the-variants.{Read as SuffixRead, TooBig as SuffixTooBig}
+use Rattle.parts.specs.declared.fields.Pre.{Pre}
+use Rattle.parts.specs.declared.fields.Part.{Part}
+use Rattle.parts.specs.declared.head.Head.{Head}
+use Rattle.parts.specs.declared.suffix.Suffix.{Suffix}
+use Rattle.parts.specs.declared.suffix.Suffix.the-variants.{Read as SuffixRead, TooBig as SuffixTooBig}
+use Rattle.parts.specs.Head.{headOf}
+use Rattle.parts.specs.Suffix.{suffixAt}
 use Rattle.reading.specs.declared.label.Label.{Label}
 use Rattle.reading.specs.declared.text.PatternReading.{PatternReading}
-use Rattle.reading.specs.Head.{headOf}
-use Rattle.reading.specs.Suffix.{suffixAt}
 use Rattle.reading.specs.Label.{labelAt}
 use Rattle.reading.specs.Reading.{
   refusedWith,

@@ -7,11 +7,11 @@ use lib.Dec.{eqb}
 use lib.ListN.{getD, drop}
 use Rattle.chars.specs.Pick.{pick}
 use Rattle.chars.specs.Class.{digit, letter, between, front}
-use Rattle.reading.specs.declared.fields.Span.{Span}
-use Rattle.reading.specs.declared.fields.Local.{Local}
+use Rattle.parts.specs.declared.fields.Span.{Span}
+use Rattle.parts.specs.declared.fields.Local.{Local}
+use Rattle.parts.specs.Fields.{noLocal, pushedSpan}
+use Rattle.parts.specs.Places.{separatorEnd}
 use Rattle.reading.specs.declared.label.Label.{Label}
-use Rattle.reading.specs.Fields.{noLocal, pushedSpan}
-use Rattle.reading.specs.Places.{separatorEnd}
 
 abbrev pub labelRefused : ℕ → ℕ → Label
 labelRefused number place = record { refusal = number; place = place; at = 0; local = noLocal }

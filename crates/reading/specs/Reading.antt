@@ -10,31 +10,28 @@ use Rattle.chars.specs.Pick.{pick}
 use Rattle.chars.specs.Text.{ascii}
 use Rattle.chars.specs.Class.{blank, between, front}
 use Rattle.chars.specs.Case.{startsWith}
-use Rattle.reading.specs.declared.fields.Pre.{Pre}
-use Rattle.reading.specs.declared.fields.Pre.the-variants.{Absent as NoPre}
-use Rattle.reading.specs.declared.fields.Part.{Part}
-use Rattle.reading.specs.declared.fields.Part.the-variants.{Absent as NoPart}
-use Rattle.reading.specs.declared.fields.Local.{Local}
-use Rattle.reading.specs.declared.fields.Version.{Version}
-use Rattle.reading.specs.declared.head.Head.{Head}
-use Rattle.reading.specs.declared.suffix.Suffix.{Suffix}
-use Rattle.reading.specs.declared.suffix.Suffix.the-variants.{Read as SuffixRead, TooBig as SuffixTooBig}
+use Rattle.parts.specs.declared.fields.Pre.{Pre}
+use Rattle.parts.specs.declared.fields.Pre.the-variants.{Absent as NoPre}
+use Rattle.parts.specs.declared.fields.Part.{Part}
+use Rattle.parts.specs.declared.fields.Part.the-variants.{Absent as NoPart}
+use Rattle.parts.specs.declared.fields.Local.{Local}
+use Rattle.parts.specs.declared.fields.Version.{Version}
+use Rattle.parts.specs.declared.head.Head.{Head}
+use Rattle.parts.specs.declared.suffix.Suffix.{Suffix}
+use Rattle.parts.specs.declared.suffix.Suffix.the-variants.{Read as SuffixRead, TooBig as SuffixTooBig}
+use Rattle.parts.specs.Fields.{noLocal, noVersion}
+use Rattle.parts.specs.Head.{headOf}
+use Rattle.parts.specs.Suffix.{suffixAt}
 use Rattle.reading.specs.declared.label.Label.{Label}
 use Rattle.reading.specs.declared.text.Verdict.{Verdict}
 use Rattle.reading.specs.declared.text.Verdict.the-variants.{Accepted, Refused}
 use Rattle.reading.specs.declared.text.PatternReading.{PatternReading}
 use Rattle.reading.specs.declared.text.Reading.{Reading}
-use Rattle.reading.specs.Fields.{noRelease, noLocal}
-use Rattle.reading.specs.Head.{headOf}
-use Rattle.reading.specs.Suffix.{suffixAt}
 use Rattle.reading.specs.Label.{labelAt}
 
 -- a text or a list has at most so many bytes
 abbrev pub longest : ℕ
 longest = 1024
-
-abbrev pub noVersion : Version
-noVersion = record { epoch = 0; release = noRelease; pre = NoPre; post = NoPart; dev = NoPart; local = noLocal }
 
 -- a refusal gives nothing but its number and place
 abbrev pub refusedWith : ℕ → ℕ → PatternReading

@@ -8,11 +8,11 @@ use Rattle.chars.specs.Pick.{pick}
 use Rattle.decimal.specs.declared.parse.Number.{Number}
 use Rattle.decimal.specs.declared.parse.Number.the-variants.{Value, TooBig}
 use Rattle.decimal.specs.Parse.{numberOf, digitsOf}
-use Rattle.reading.specs.declared.fields.Span.{Span}
-use Rattle.reading.specs.declared.fields.Local.{Local}
+use Rattle.parts.specs.declared.fields.Span.{Span}
+use Rattle.parts.specs.declared.fields.Local.{Local}
+use Rattle.parts.specs.Fields.{noSpan}
 use Rattle.reading.specs.declared.segment.Segment.{Segment}
 use Rattle.reading.specs.declared.segment.Segment.the-variants.{Number as IsNumber, Text}
-use Rattle.reading.specs.Fields.{noSpan}
 use Rattle.reading.specs.Reading.{versionOf}
 
 abbrev pub numbered : Number → Segment

@@ -10,20 +10,20 @@ use lib.ListN.{length, getD, drop, replicate}
 use Rattle.chars.specs.Pick.{pick}
 use Rattle.chars.specs.Text.{ascii}
 use Rattle.chars.specs.Case.{startsWith}
-use Rattle.reading.specs.declared.fields.Release.{Release}
-use Rattle.reading.specs.declared.fields.Pre.{Pre}
-use Rattle.reading.specs.declared.fields.Pre.the-variants.{Absent as NoPre}
-use Rattle.reading.specs.declared.fields.Part.{Part}
-use Rattle.reading.specs.declared.fields.Part.the-variants.{Absent as NoPart}
-use Rattle.reading.specs.declared.fields.Version.{Version}
-use Rattle.reading.specs.declared.suffix.Suffix.{Suffix}
-use Rattle.reading.specs.declared.suffix.Suffix.the-variants.{Read as SuffixRead, TooBig as SuffixTooBig}
+use Rattle.parts.specs.declared.fields.Release.{Release}
+use Rattle.parts.specs.declared.fields.Pre.{Pre}
+use Rattle.parts.specs.declared.fields.Pre.the-variants.{Absent as NoPre}
+use Rattle.parts.specs.declared.fields.Part.{Part}
+use Rattle.parts.specs.declared.fields.Part.the-variants.{Absent as NoPart}
+use Rattle.parts.specs.declared.fields.Version.{Version}
+use Rattle.parts.specs.declared.suffix.Suffix.{Suffix}
+use Rattle.parts.specs.declared.suffix.Suffix.the-variants.{Read as SuffixRead, TooBig as SuffixTooBig}
+use Rattle.parts.specs.Fields.{noLocal}
+use Rattle.parts.specs.Places.{numberAt, markedNumber, onNumber}
+use Rattle.parts.specs.Suffix.{suffixAt}
 use Rattle.reading.specs.declared.short.ShortHead.{ShortHead}
 use Rattle.reading.specs.declared.short.Short.{Short}
 use Rattle.reading.specs.declared.short.ShortReading.{ShortReading}
-use Rattle.reading.specs.Fields.{noLocal}
-use Rattle.reading.specs.Places.{numberAt, markedNumber, onNumber}
-use Rattle.reading.specs.Suffix.{suffixAt}
 use Rattle.reading.specs.Reading.{longest}
 
 abbrev pub shortHead : ℕ → ℕ → ℕ → ℕ → ℕ → ℕ → ShortHead

@@ -3,10 +3,10 @@ use mathlib.Core.List.{List, [], _∷_}
 use Prim.Native.Nat.{ℕ, zero, suc, min}
 use lib.ListN.{take}
 use Rattle.chars.specs.Case.{lowered}
-use Rattle.reading.specs.declared.fields.Pre.{Pre}
-use Rattle.reading.specs.declared.fields.Part.{Part}
-use Rattle.reading.specs.declared.fields.Local.{Local}
-use Rattle.reading.specs.declared.fields.Version.{Version}
+use Rattle.parts.specs.declared.fields.Pre.{Pre}
+use Rattle.parts.specs.declared.fields.Part.{Part}
+use Rattle.parts.specs.declared.fields.Local.{Local}
+use Rattle.parts.specs.declared.fields.Version.{Version}
 use Rattle.reading.specs.declared.segment.Segment.{Segment}
 use Rattle.reading.specs.declared.segment.Segment.the-variants.{Number as IsNumber, Text as IsText}
 use Rattle.reading.specs.Reading.{versionOf}

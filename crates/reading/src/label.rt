@@ -1,13 +1,13 @@
 // Rule 8: the local label.
-use crate::fields::Local;
-use crate::fields::Span;
-use crate::places::separator_end;
 use chars::class;
 use chars::place::byte_at;
-ghost use Prim.Native.Nat.{_≤_};
+use parts::fields::Local;
+use parts::fields::Span;
+use parts::places::separator_end;
+ghost use Prim.Native.Nat.{_<_, _≤_};
 ghost use lib.ListN.{length};
-ghost use Rattle.reading.specs.Fields.{noLocal};
-ghost use Rattle.reading.specs.Places.{Stepped};
+ghost use Rattle.parts.specs.Fields.{Spans, noLocal, pushedSpan};
+ghost use Rattle.parts.specs.Places.{Stepped};
 ghost use Rattle.reading.specs.Label.{Labelled, wordEnd, labelRefused, segmentsFrom, labelAt};
 
 // What rule 8 reads, and where the rest begins. A refusal's number is 0 where there is none, and nothing else is given beside one.
@@ -38,6 +38,17 @@ fn word_end(s: &[u8], at: usize) -> usize
     at + class::run(&s[at..], class::DIGIT, class::LETTER)
 }
 
+// The label so far, and one segment more.
+fn pushed(mut local: Local, span: Span) -> Local
+    requires { ⌜ local .len < 16 ⌝ }
+    ensures { λ r. ⌜ Spans (pushedSpan local span) r ⌝ }
+{
+    let i = local.len;
+    local.spans[i] = span;
+    local.len = i + 1;
+    local
+}
+
 // Segments from a place on, one separator between two.
 fn read_segments(s: &[u8], from: usize) -> Label
     requires { ⌜ (from ≤ length (now s)) × (length (now s) ≤ 1024) ⌝ }
@@ -57,7 +68,7 @@ fn read_segments(s: &[u8], from: usize) -> Label
             start: at as u16,
             end: end as u16,
         };
-        local = local.push(span);
+        local = pushed(local, span);
         let next = separator_end(s, end);
         if next == end {
             return Label {

@@ -1,10 +1,10 @@
 // The segments of a local label, one by one.
-use crate::fields::Local;
 use crate::text::read_version;
 use chars::class;
 use chars::place::part;
 use decimal::parse::Number;
 use decimal::parse::parse_u64;
+use parts::fields::Local;
 ghost use mathlib.Core.Path.{_≡_};
 ghost use Rattle.reading.specs.Segment.{BytesOf, segmentOf, segmentText};
 

@@ -1,16 +1,16 @@
 // A short cut for the versions that are met most: no epoch, at most four release numbers, no label, no blanks. They need no array.
-use crate::fields::Local;
-use crate::fields::Part;
-use crate::fields::Pre;
-use crate::fields::Release;
-use crate::fields::Version;
-use crate::places::NumberAt;
-use crate::places::marked_number;
-use crate::places::number_at;
-use crate::suffix::Suffix;
-use crate::suffix::read_suffix;
 use chars::case::beginning;
 use chars::place::byte_at;
+use parts::fields::Local;
+use parts::fields::Part;
+use parts::fields::Pre;
+use parts::fields::Release;
+use parts::fields::Version;
+use parts::places::NumberAt;
+use parts::places::marked_number;
+use parts::places::number_at;
+use parts::suffix::Suffix;
+use parts::suffix::read_suffix;
 ghost use mathlib.Core.Path.{_≡_};
 ghost use Prim.Native.Nat.{_≤_};
 ghost use lib.ListN.{length};
@@ -31,7 +31,7 @@ ghost use Rattle.reading.specs.Short.{
   wholeVersion,
 };
 
-// The release numbers, and how many they are. Those that are not there are 0.
+// The release numbers, and how many they are. Those that are not there are 0. Each number has a field of its own, and so a step of its own.
 pub struct ShortHead {
     pub count: usize,
     pub first: u64,
@@ -159,9 +159,8 @@ fn read_short_head(s: &[u8]) -> ShortHead
     }
 }
 
-fn found(head: ShortHead, pre: Pre, post: Part, dev: Part) -> ShortReading
-    requires { ⌜ (head .count ≤ 4) × Filled (head .count) (head .first) (head .second) (head .third) (head .fourth) ⌝ }
-    ensures { λ r. ⌜ ShortRead (foundWith head pre post dev) r ⌝ }
+pub fn found(head: ShortHead, pre: Pre, post: Part, dev: Part) -> ShortReading
+    ensures { λ r. ⌜ r ≡ foundWith head pre post dev ⌝ }
 {
     ShortReading {
         found: true,
@@ -178,7 +177,7 @@ fn found(head: ShortHead, pre: Pre, post: Part, dev: Part) -> ShortReading
     }
 }
 
-fn not_found() -> ShortReading
+pub fn not_found() -> ShortReading
     ensures { λ r. ⌜ ShortRead notShort r ⌝ }
 {
     ShortReading {

@@ -1,18 +1,18 @@
 // A whole text: rules 1 to 9, in their order, as a version or as a pattern.
-use crate::fields::Local;
-use crate::fields::Part;
-use crate::fields::Pre;
-use crate::fields::Version;
-use crate::head::Head;
-use crate::head::read_head;
 use crate::label::read_label;
 use crate::short::read_short;
 use crate::short::whole;
-use crate::suffix::Suffix;
-use crate::suffix::read_suffix;
 use answers::Refusal;
 use chars::case::beginning;
 use chars::class;
+use parts::fields::Local;
+use parts::fields::Part;
+use parts::fields::Pre;
+use parts::fields::Version;
+use parts::head::Head;
+use parts::head::read_head;
+use parts::suffix::Suffix;
+use parts::suffix::read_suffix;
 ghost use Prim.Native.Nat.{_≤_, _+_};
 ghost use lib.ListN.{length};
 ghost use Rattle.reading.specs.Reading.{Read, VersionRead, refusedWith, starred, afterSuffix, afterRelease, patternAs, patternOf, versionOf};

@@ -15,9 +15,9 @@ use crate::say::put_word;
 use crate::say::put_written;
 use crate::words::word;
 use crate::words::word_count;
+use accepting::accept::Accepts;
 use answers::Written;
 use chars::place::part;
-use clause::accept::Accepts;
 use clause::list::Checked;
 use compare::text::Compared;
 use decimal::put::put_byte;
@@ -126,7 +126,7 @@ fn of_texts(asked: OfTexts, first: &[u8], second: &[u8], out: &mut [u8]) -> usiz
 }
 
 fn of_accepts(list: &[u8], version: &[u8], out: &mut [u8]) -> usize {
-    match clause::accepts(list, version) {
+    match accepting::accepts(list, version) {
         Accepts::Yes => put_bytes(out, 0, b"yes"),
         Accepts::No => put_bytes(out, 0, b"no"),
         Accepts::List(refusal) => put_refusal(out, 0, b"list ", refusal),
@@ -135,7 +135,7 @@ fn of_accepts(list: &[u8], version: &[u8], out: &mut [u8]) -> usize {
 }
 
 fn of_lookup(table: &[u8], version: &[u8], out: &mut [u8]) -> usize {
-    match table::lookup::lookup(table, version) {
+    match seek::lookup(table, version) {
         Looked::Yes => put_bytes(out, 0, b"yes"),
         Looked::No => put_bytes(out, 0, b"no"),
         Looked::Table(refusal) => put_refusal(out, 0, b"table ", refusal),

@@ -5,8 +5,8 @@ use mathlib.Core.List.{[], _∷_}
 use Rattle.chars.specs.Text.{ascii}
 use Rattle.chars.specs.declared.spelling.PreKind.the-variants.{Rc}
 use Rattle.decimal.specs.Digits.{digits, decimal}
-use Rattle.reading.specs.declared.fields.Pre.the-variants.{Absent as NoPre, Is as IsPre}
-use Rattle.reading.specs.declared.fields.Part.the-variants.{Absent as NoPart, Is as IsPart}
+use Rattle.parts.specs.declared.fields.Pre.the-variants.{Absent as NoPre, Is as IsPre}
+use Rattle.parts.specs.declared.fields.Part.the-variants.{Absent as NoPart, Is as IsPart}
 use Rattle.reading.specs.Value.{number, text, Value}
 use Rattle.normal.specs.Normal.{epochText}
 use Rattle.roundtrip.specs.Text.{valueText}

@@ -10,16 +10,16 @@ use borrow.Author.Tests.{le-ltb}
 use Rattle.chars.specs.Text.{ascii}
 use Rattle.chars.specs.Class.{front}
 use Rattle.chars.specs.Case.{startsWith}
-use Rattle.reading.specs.declared.fields.Release.{Release}
-use Rattle.reading.specs.declared.fields.Pre.{Pre}
-use Rattle.reading.specs.declared.fields.Part.{Part}
-use Rattle.reading.specs.declared.fields.Local.{Local}
-use Rattle.reading.specs.declared.fields.Version.{Version}
-use Rattle.reading.specs.declared.suffix.Suffix.the-variants.{Read}
+use Rattle.parts.specs.declared.fields.Release.{Release}
+use Rattle.parts.specs.declared.fields.Pre.{Pre}
+use Rattle.parts.specs.declared.fields.Part.{Part}
+use Rattle.parts.specs.declared.fields.Local.{Local}
+use Rattle.parts.specs.declared.fields.Version.{Version}
+use Rattle.parts.specs.declared.suffix.Suffix.the-variants.{Read}
 use Rattle.reading.specs.declared.text.PatternReading.{PatternReading}
 use Rattle.reading.specs.declared.text.Verdict.the-variants.{Accepted}
-use Rattle.reading.specs.Head.{headRead, headOf}
-use Rattle.reading.specs.Suffix.{suffixAt}
+use Rattle.parts.specs.Head.{headRead, headOf}
+use Rattle.parts.specs.Suffix.{suffixAt}
 use Rattle.reading.specs.Label.{labelRead, labelAt}
 use Rattle.reading.specs.Reading.{fielded, accepted, afterSuffix, afterRelease, afterHead, patternAs, versionOf}
 use Rattle.reading.specs.Value.{Value, labelFrom, valueOf, valueIn}

@@ -17,13 +17,13 @@ use Rattle.chars.proofs.Beginnings.{lower-under}
 use Rattle.decimal.specs.Digits.{decimal}
 use Rattle.decimal.specs.Parse.{digitsOf, leadingOf}
 use Rattle.decimal.proofs.Values.{lead-none}
-use Rattle.reading.specs.declared.fields.Release.{Release}
-use Rattle.reading.specs.declared.head.Head.{Head}
-use Rattle.reading.specs.declared.places.NumberAt.the-variants.{Absent, Read}
-use Rattle.reading.specs.Fields.{onlyNumber, pushedNumber}
-use Rattle.reading.specs.Places.{placed, numberAt, markedNumber}
-use Rattle.reading.specs.Head.{headRead, leadEnd, releaseFrom, afterEpoch, headAt, headOf}
-use Rattle.reading.proofs.Heads.{release-done, release-more}
+use Rattle.parts.specs.declared.fields.Release.{Release}
+use Rattle.parts.specs.declared.head.Head.{Head}
+use Rattle.parts.specs.declared.places.NumberAt.the-variants.{Absent, Read}
+use Rattle.parts.specs.Fields.{onlyNumber, pushedNumber}
+use Rattle.parts.specs.Places.{placed, numberAt, markedNumber}
+use Rattle.parts.specs.Head.{headRead, leadEnd, releaseFrom, afterEpoch, headAt, headOf}
+use Rattle.parts.proofs.Heads.{release-done, release-more}
 use Rattle.normal.specs.Normal.{epochText}
 use Rattle.roundtrip.specs.Text.{dottedAll, joinedAll}
 use Rattle.roundtrip.specs.Readable.{Fits}

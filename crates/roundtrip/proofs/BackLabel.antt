@@ -9,9 +9,9 @@ use lib.ListN.{length, drop, length-set, length-map}
 use lib.Seq.{append-snoc, take-append-seam}
 use Rattle.order.specs.All.{All}
 use Rattle.chars.specs.Class.{classOf, digit, letter, between, front}
-use Rattle.reading.specs.declared.fields.Local.{Local}
+use Rattle.parts.specs.declared.fields.Local.{Local}
 use Rattle.reading.specs.declared.label.Label.{Label as LabelStep}
-use Rattle.reading.specs.Fields.{noLocal, pushedSpan}
+use Rattle.parts.specs.Fields.{noLocal, pushedSpan}
 use Rattle.reading.specs.Label.{labelRead, wordEnd, spanning, segmentsFrom, labelAt}
 use Rattle.reading.specs.Segment.{spanned}
 use Rattle.reading.specs.Value.{Label}

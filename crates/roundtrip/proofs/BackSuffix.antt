@@ -23,17 +23,17 @@ use Rattle.chars.specs.Spelling.{shortPreSpelling, preSpelling, postSpelling, d
 use Rattle.chars.proofs.Beginnings.{lower-under}
 use Rattle.decimal.specs.Digits.{decimal}
 use Rattle.decimal.specs.Parse.{digitsOf}
-use Rattle.reading.specs.declared.fields.Pre.{Pre}
-use Rattle.reading.specs.declared.fields.Pre.the-variants.{Absent as NoPre, Is as IsPre}
-use Rattle.reading.specs.declared.fields.Part.{Part}
-use Rattle.reading.specs.declared.fields.Part.the-variants.{Absent as NoPart, Is as IsPart}
-use Rattle.reading.specs.declared.suffix.Count.the-variants.{Read as Counted}
-use Rattle.reading.specs.declared.suffix.PreStep.the-variants.{Read as PreIs}
-use Rattle.reading.specs.declared.suffix.PartStep.{PartStep}
-use Rattle.reading.specs.declared.suffix.PartStep.the-variants.{Read as PartIs}
-use Rattle.reading.specs.declared.suffix.Suffix.the-variants.{Read}
-use Rattle.reading.specs.Places.{separatorEnd, markedNumber}
-use Rattle.reading.specs.Suffix.{numberOrZero, preAt, partFrom, spelledPost, postAt, devAt, suffixAt}
+use Rattle.parts.specs.declared.fields.Pre.{Pre}
+use Rattle.parts.specs.declared.fields.Pre.the-variants.{Absent as NoPre, Is as IsPre}
+use Rattle.parts.specs.declared.fields.Part.{Part}
+use Rattle.parts.specs.declared.fields.Part.the-variants.{Absent as NoPart, Is as IsPart}
+use Rattle.parts.specs.declared.suffix.Count.the-variants.{Read as Counted}
+use Rattle.parts.specs.declared.suffix.PreStep.the-variants.{Read as PreIs}
+use Rattle.parts.specs.declared.suffix.PartStep.{PartStep}
+use Rattle.parts.specs.declared.suffix.PartStep.the-variants.{Read as PartIs}
+use Rattle.parts.specs.declared.suffix.Suffix.the-variants.{Read}
+use Rattle.parts.specs.Places.{separatorEnd, markedNumber}
+use Rattle.parts.specs.Suffix.{numberOrZero, preAt, partFrom, spelledPost, postAt, devAt, suffixAt}
 use Rattle.reading.specs.Value.{Label}
 use Rattle.normal.specs.Normal.{kindText, preText}
 use Rattle.roundtrip.specs.Text.{labelText, fromDev, fromPost, fromPre}

@@ -14,9 +14,9 @@ use Rattle.decimal.specs.Digits.{digits, decimal}
 use Rattle.decimal.specs.Parse.{digitOf, valueFrom, numberOf, leadingOf}
 use Rattle.reading.specs.declared.text.Verdict.{Verdict}
 use Rattle.reading.specs.declared.text.Verdict.the-variants.{Accepted, Refused}
-use Rattle.reading.specs.Places.{separatorEnd, numberAt, markedNumber}
-use Rattle.reading.specs.Head.{leadEnd, releaseFrom, headAt, headOf}
-use Rattle.reading.specs.Suffix.{numberOrZero, preAt, spelledPost, postAt, devAt, suffixAt}
+use Rattle.parts.specs.Places.{separatorEnd, numberAt, markedNumber}
+use Rattle.parts.specs.Head.{leadEnd, releaseFrom, headAt, headOf}
+use Rattle.parts.specs.Suffix.{numberOrZero, preAt, spelledPost, postAt, devAt, suffixAt}
 use Rattle.reading.specs.Label.{wordEnd, segmentsFrom, labelAt}
 use Rattle.reading.specs.Segment.{segmentOf, segmentBytes}
 use Rattle.reading.specs.Reading.{afterRelease, afterSuffix, patternAs, versionOf}

@@ -9,10 +9,10 @@ use lib.ListN.{length, getD, take, drop}
 use lib.Seq.{drop-cons, take-suc-set}
 use borrow.Author.Tests.{lt-leb}
 use Rattle.order.specs.All.{All}
-use Rattle.reading.specs.declared.fields.Release.{Release}
-use Rattle.reading.specs.declared.fields.Span.{Span}
-use Rattle.reading.specs.declared.fields.Local.{Local}
-use Rattle.reading.specs.Fields.{pushedNumber, noSpan, pushedSpan}
+use Rattle.parts.specs.declared.fields.Release.{Release}
+use Rattle.parts.specs.declared.fields.Span.{Span}
+use Rattle.parts.specs.declared.fields.Local.{Local}
+use Rattle.parts.specs.Fields.{pushedNumber, noSpan, pushedSpan}
 use Rattle.reading.specs.Segment.{spanned, segmentBytes}
 use Rattle.reading.specs.Value.{listed, labelFrom}
 

@@ -12,37 +12,24 @@ use Rattle.chars.specs.Pick.{pick}
 use Rattle.chars.specs.Text.{ascii}
 use Rattle.chars.specs.Class.{blank, between, front}
 use Rattle.chars.specs.Case.{startsWith}
-use Rattle.reading.specs.declared.fields.Pre.{Pre}
-use Rattle.reading.specs.declared.fields.Pre.the-variants.{Absent as NoPre}
-use Rattle.reading.specs.declared.fields.Part.{Part}
-use Rattle.reading.specs.declared.fields.Part.the-variants.{Absent as NoPart}
-use Rattle.reading.specs.declared.fields.Local.{Local}
-use Rattle.reading.specs.declared.fields.Version.{Version}
-use Rattle.reading.specs.declared.head.Head.{Head}
+use Rattle.parts.specs.declared.fields.Pre.{Pre}
+use Rattle.parts.specs.declared.fields.Pre.the-variants.{Absent as NoPre}
+use Rattle.parts.specs.declared.fields.Part.{Part}
+use Rattle.parts.specs.declared.fields.Part.the-variants.{Absent as NoPart}
+use Rattle.parts.specs.declared.fields.Local.{Local}
+use Rattle.parts.specs.declared.fields.Version.{Version}
+use Rattle.parts.specs.declared.head.Head.{Head}
 use Rattle.reading.specs.declared.label.Label.{Label}
-use Rattle.reading.specs.declared.suffix.Suffix.{Suffix}
-use Rattle.reading.specs.declared.suffix.Suffix.the-variants.{Read as SuffixIs, TooBig}
+use Rattle.parts.specs.declared.suffix.Suffix.{Suffix}
+use Rattle.parts.specs.declared.suffix.Suffix.the-variants.{Read as SuffixIs, TooBig}
 use Rattle.reading.specs.declared.text.PatternReading.{PatternReading}
 use Rattle.reading.specs.declared.text.Verdict.{Verdict}
 use Rattle.reading.specs.declared.text.Verdict.the-variants.{Accepted, Refused}
-use Rattle.reading.specs.Fields.{noLocal}
-use Rattle.reading.specs.Head.{headOf}
-use Rattle.reading.specs.Suffix.{suffixAt}
+use Rattle.parts.specs.Fields.{noLocal, noVersion}
+use Rattle.parts.specs.Head.{headOf}
+use Rattle.parts.specs.Suffix.{suffixAt}
 use Rattle.reading.specs.Label.{labelAt}
-use Rattle.reading.specs.Reading.{
-  longest,
-  noVersion,
-  fielded,
-  starred,
-  ended,
-  afterSuffix,
-  suffixed,
-  afterRelease,
-  afterHead,
-  patternAs,
-  patternOf,
-  versionOf,
-}
+use Rattle.reading.specs.Reading.{longest, fielded, starred, ended, afterSuffix, suffixed, afterRelease, afterHead, patternAs, patternOf, versionOf}
 use Rattle.reading.specs.Segment.{spanned}
 use Rattle.reading.specs.Value.{labelFrom, valueOf}
 use Rattle.roundtrip.specs.Text.{dottedAll, labelText, valueText}

@@ -13,11 +13,11 @@ use Rattle.chars.specs.Pick.{pick}
 use Rattle.chars.specs.Class.{blank, between, front}
 use Rattle.chars.specs.Case.{lowerOf}
 use Rattle.decimal.specs.Digits.{decimal}
-use Rattle.reading.specs.declared.fields.Release.{Release}
-use Rattle.reading.specs.declared.head.Head.{Head}
-use Rattle.reading.specs.Fields.{onlyNumber, pushedNumber}
-use Rattle.reading.specs.Places.{numberAt, markedNumber}
-use Rattle.reading.specs.Head.{leadEnd, releaseFrom, afterEpoch, headAt, headOf}
+use Rattle.parts.specs.declared.fields.Release.{Release}
+use Rattle.parts.specs.declared.head.Head.{Head}
+use Rattle.parts.specs.Fields.{onlyNumber, pushedNumber}
+use Rattle.parts.specs.Places.{numberAt, markedNumber}
+use Rattle.parts.specs.Head.{leadEnd, releaseFrom, afterEpoch, headAt, headOf}
 use Rattle.normal.specs.Normal.{epochText}
 use Rattle.roundtrip.specs.Text.{dottedAll}
 use Rattle.roundtrip.specs.Readable.{Fits}

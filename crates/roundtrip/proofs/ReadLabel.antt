@@ -15,12 +15,12 @@ use Rattle.chars.specs.Class.{digit, letter, between, front}
 use Rattle.chars.proofs.Beginnings.{lowered-length}
 use Rattle.decimal.specs.Digits.{decimal}
 use Rattle.decimal.specs.Parse.{valueFrom, numberOf, digitsOf}
-use Rattle.reading.specs.declared.fields.Local.{Local}
+use Rattle.parts.specs.declared.fields.Local.{Local}
 use Rattle.reading.specs.declared.label.Label.{Label as LabelStep}
 use Rattle.reading.specs.declared.segment.Segment.{Segment}
 use Rattle.reading.specs.declared.segment.Segment.the-variants.{Number as IsNumber, Text}
-use Rattle.reading.specs.Fields.{noLocal, pushedSpan}
-use Rattle.reading.specs.Places.{separatorEnd}
+use Rattle.parts.specs.Fields.{noLocal, pushedSpan}
+use Rattle.parts.specs.Places.{separatorEnd}
 use Rattle.reading.specs.Label.{wordEnd, spanning, moreSegments, segmentsFrom, labelAt}
 use Rattle.reading.specs.Segment.{numbered, segmentOf, spanned}
 use Rattle.reading.specs.Value.{labelAs, labelFrom}

@@ -13,9 +13,9 @@ use Rattle.chars.specs.Class.{classOf, separator, digit, between, front}
 use Rattle.decimal.specs.declared.parse.Number.the-variants.{TooBig}
 use Rattle.decimal.specs.Digits.{decimal}
 use Rattle.decimal.specs.Parse.{valueFrom, numberOf, digitsOf, sized, leadingOf}
-use Rattle.reading.specs.declared.places.NumberAt.{NumberAt}
-use Rattle.reading.specs.declared.places.NumberAt.the-variants.{Absent, Read, TooBig}
-use Rattle.reading.specs.Places.{separatorEnd, placed, numberAt, markedNumber, onNumber}
+use Rattle.parts.specs.declared.places.NumberAt.{NumberAt}
+use Rattle.parts.specs.declared.places.NumberAt.the-variants.{Absent, Read, TooBig}
+use Rattle.parts.specs.Places.{separatorEnd, placed, numberAt, markedNumber, onNumber}
 use Rattle.roundtrip.specs.Readable.{Fits}
 use Rattle.roundtrip.proofs.Numbers.{no-fewer}
 

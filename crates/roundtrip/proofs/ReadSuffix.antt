@@ -21,20 +21,20 @@ use Rattle.chars.specs.declared.spelling.Spelling.{Spelling}
 use Rattle.chars.specs.declared.spelling.Spelling.the-variants.{Found, Missing}
 use Rattle.chars.specs.Spelling.{tried, shortPreSpelling, preSpelling, triedPlain, postSpelling, devSpelling}
 use Rattle.decimal.specs.Digits.{digits, decimal}
-use Rattle.reading.specs.declared.fields.Pre.{Pre}
-use Rattle.reading.specs.declared.fields.Part.{Part}
-use Rattle.reading.specs.declared.places.NumberAt.{NumberAt}
-use Rattle.reading.specs.declared.places.NumberAt.the-variants.{Absent as NoNumber, Read as NumberIs, TooBig as NumberTooBig}
-use Rattle.reading.specs.declared.suffix.Count.{Count}
-use Rattle.reading.specs.declared.suffix.Count.the-variants.{Read as Counted, TooBig as CountTooBig}
-use Rattle.reading.specs.declared.suffix.PreStep.{PreStep}
-use Rattle.reading.specs.declared.suffix.PreStep.the-variants.{Read as PreIs, TooBig as PreTooBig}
-use Rattle.reading.specs.declared.suffix.PartStep.{PartStep}
-use Rattle.reading.specs.declared.suffix.PartStep.the-variants.{Read as PartIs, TooBig as PartTooBig}
-use Rattle.reading.specs.declared.suffix.Suffix.{Suffix}
-use Rattle.reading.specs.declared.suffix.Suffix.the-variants.{Read, TooBig}
-use Rattle.reading.specs.Places.{separatorEnd, numberAt, markedNumber}
-use Rattle.reading.specs.Suffix.{
+use Rattle.parts.specs.declared.fields.Pre.{Pre}
+use Rattle.parts.specs.declared.fields.Part.{Part}
+use Rattle.parts.specs.declared.places.NumberAt.{NumberAt}
+use Rattle.parts.specs.declared.places.NumberAt.the-variants.{Absent as NoNumber, Read as NumberIs, TooBig as NumberTooBig}
+use Rattle.parts.specs.declared.suffix.Count.{Count}
+use Rattle.parts.specs.declared.suffix.Count.the-variants.{Read as Counted, TooBig as CountTooBig}
+use Rattle.parts.specs.declared.suffix.PreStep.{PreStep}
+use Rattle.parts.specs.declared.suffix.PreStep.the-variants.{Read as PreIs, TooBig as PreTooBig}
+use Rattle.parts.specs.declared.suffix.PartStep.{PartStep}
+use Rattle.parts.specs.declared.suffix.PartStep.the-variants.{Read as PartIs, TooBig as PartTooBig}
+use Rattle.parts.specs.declared.suffix.Suffix.{Suffix}
+use Rattle.parts.specs.declared.suffix.Suffix.the-variants.{Read, TooBig}
+use Rattle.parts.specs.Places.{separatorEnd, numberAt, markedNumber}
+use Rattle.parts.specs.Suffix.{
   orZero,
   numberOrZero,
   preOf,

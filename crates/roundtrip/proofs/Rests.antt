@@ -17,8 +17,8 @@ use Rattle.chars.specs.Class.{classOf, separator, digit, between, front}
 use Rattle.decimal.specs.declared.parse.Leading.the-variants.{Read as Led}
 use Rattle.decimal.specs.Digits.{decimal}
 use Rattle.decimal.specs.Parse.{digitsOf, leadingOf}
-use Rattle.reading.specs.declared.places.NumberAt.the-variants.{Read}
-use Rattle.reading.specs.Places.{separatorEnd, numberAt}
+use Rattle.parts.specs.declared.places.NumberAt.the-variants.{Read}
+use Rattle.parts.specs.Places.{separatorEnd, numberAt}
 use Rattle.roundtrip.specs.Readable.{Fits}
 use Rattle.roundtrip.proofs.Numbers.{Digit, digit-class, digit-between, decimal-digits, number-back, begins-with-digit}
 

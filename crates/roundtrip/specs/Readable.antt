@@ -7,10 +7,10 @@ use lib.ListN.{length}
 use Rattle.order.specs.All.{All}
 use Rattle.chars.specs.Class.{digit, letter, between}
 use Rattle.chars.specs.Case.{lowered}
-use Rattle.reading.specs.declared.fields.Pre.{Pre}
-use Rattle.reading.specs.declared.fields.Pre.the-variants.{Absent as NoPre, Is as IsPre}
-use Rattle.reading.specs.declared.fields.Part.{Part}
-use Rattle.reading.specs.declared.fields.Part.the-variants.{Absent as NoPart, Is as IsPart}
+use Rattle.parts.specs.declared.fields.Pre.{Pre}
+use Rattle.parts.specs.declared.fields.Pre.the-variants.{Absent as NoPre, Is as IsPre}
+use Rattle.parts.specs.declared.fields.Part.{Part}
+use Rattle.parts.specs.declared.fields.Part.the-variants.{Absent as NoPart, Is as IsPart}
 use Rattle.reading.specs.declared.segment.Segment.the-variants.{Text}
 use Rattle.reading.specs.Segment.{segmentOf}
 use Rattle.reading.specs.Value.{Label, number, text, Value}

@@ -4,8 +4,8 @@ use Prim.Native.Nat.{ℕ}
 use Prim.Native.Char.{code}
 use Rattle.chars.specs.Text.{ascii}
 use Rattle.decimal.specs.Digits.{decimal}
-use Rattle.reading.specs.declared.fields.Pre.{Pre}
-use Rattle.reading.specs.declared.fields.Part.{Part}
+use Rattle.parts.specs.declared.fields.Pre.{Pre}
+use Rattle.parts.specs.declared.fields.Part.{Part}
 use Rattle.reading.specs.Value.{Label, number, text, Value}
 use Rattle.normal.specs.Normal.{epochText, preText, partText}
 

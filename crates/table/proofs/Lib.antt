@@ -4,14 +4,10 @@ pub mod Numbers
 pub mod Records
 pub mod Bodies
 pub mod Written
-pub mod FiguresRead
-pub mod Plains
 pub mod Reading
 pub mod Searching
 pub mod Places
 pub mod Lookups
-pub mod ShortEnds
-pub mod ShortSearch
 pub mod EndsRead
 pub mod Tables
 pub mod Answers

@@ -5,7 +5,7 @@ use mathlib.Core.List.{List, [], _∷_}
 use Prim.Native.Nat.{ℕ}
 use Rattle.ranges.specs.Cut.{bot, top, before, after}
 use Rattle.ranges.specs.Range.{Range, mem}
-use Rattle.reading.specs.declared.fields.Version.{Version}
+use Rattle.parts.specs.declared.fields.Version.{Version}
 use Rattle.reading.specs.Value.{Value, valueOf}
 use Rattle.compare.specs.Versions.{compareRelease, comparePublic}
 use Rattle.ends.specs.Cut.{Place, lePlace}

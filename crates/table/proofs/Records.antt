@@ -1,16 +1,21 @@
--- The ways of `record_at`.
+-- The ways of `two_at` and `record_at`.
 -- Assumes nothing.
 use mathlib.Core.Path.{_≡_}
 use mathlib.Core.List.{List}
 use Prim.Native.Nat.{ℕ, _+_, _-_, _≤_, _<_}
 use native.Mathlib.Omega.{arith}
-use lib.ListN.{length}
+use lib.ListN.{length, List·getD-eq-default}
 use borrow.Author.Tests.{lt-ltb, le-ltb}
 use Rattle.table.specs.declared.record.RecordAt.{RecordAt}
 use Rattle.table.specs.declared.record.RecordAt.the-variants.{Missing, Found}
 use Rattle.table.specs.Record.{twoAt, recordAt}
 
 module _ (s : List ℕ) (at : ℕ) where
+  pub two-past : length s ≤ at → 0 ≡ twoAt s at
+  two-past h =
+      let past : length s ≤ at + 1 = omega arith in
+      rw (List·getD-eq-default s 0 h, List·getD-eq-default s 0 past)
+
   pub record-past : length s < at → Missing ≡ recordAt s at
   unfolding recordAt
   record-past h = rw (lt-ltb (length s) (at + 4) (omega arith))

@@ -5,7 +5,7 @@ use mathlib.Core.Bool.{Bool, true, false, not, _||_}
 use mathlib.Core.Logic.{inl, inr}
 use mathlib.Core.List.{List, [], _∷_}
 use mathlib.Core.Option.{none, some}
-use Prim.Native.Nat.{ℕ, suc, _+_, _-_, _≤_, _<_}
+use Prim.Native.Nat.{ℕ, suc, _-_, _≤_, _<_}
 use native.Mathlib.Omega.{arith}
 use lib.ListN.{length}
 use borrow.Author.Tests.{not-true, not-false, eq-eqb, ne-eqb, lt-ltb, le-ltb}
@@ -21,16 +21,13 @@ use Rattle.table.specs.declared.kind.Kind.the-variants.{Count, Lower, Up
 use Rattle.table.specs.declared.end_at.EndAt.{EndAt}
 use Rattle.table.specs.declared.search.Searched.{Searched}
 use Rattle.table.specs.declared.search.Searched.the-variants.{Refused, Held}
-use Rattle.table.specs.Record.{twoAt, recordAt, startOf, nextOf}
+use Rattle.table.specs.Record.{twoAt, recordAt}
 use Rattle.table.specs.Kind.{kindOf}
 use Rattle.table.specs.Table.{lowerOf, upperOf, endIn, Tabled, refused, ranges, bad, startedBy, rangesFrom, countedBy, tableOf}
 use Rattle.table.specs.Reached.{noEnd, placeReached, endReached, badTable, searchedFor}
 use Rattle.table.proofs.kind.Kind.{the-type}
 
--- the ways of `held_by`, and the first of `held_between`
-pub held-already : (earlier later : Bool) → earlier ≡ true → true ≡ earlier || later
-held-already earlier later e = rw e
-
+-- the ways of `held_by`
 module _ (earlier : Bool) (lo hi c : Place) (none-yet : earlier ≡ false) (r : Bool) (e : r ≡ lePlace lo c) where
   pub held-here : (q : Bool) → r ≡ true → q ≡ lePlace hi c → not q ≡ earlier || within lePlace lo hi c
   held-here q f g = rw (none-yet, ← e, f, g)
@@ -124,11 +121,6 @@ no-count Unknown s start next h = refl
 no-count Count s start next (inl e) = absurd (omega arith)
 no-count Count s start next (inr (inl e)) = absurd (omega arith)
 no-count Count s start next (inr (inr e)) = absurd (omega arith)
-
--- a count of two bytes lies within the table
-pub count-room : (r : RecordAt) (number start next n : ℕ) → r ≡ Found number start next → startOf r ≤ nextOf r → nextOf r ≤ n →
-    next - start ≡ 2 → start + 2 ≤ n
-count-room r number start next n f h g e = omega (arith, rw f at h, rw f at g)
 
 -- the ways of `search_table`: r is the first record, and q what is answered
 module _ (s : List ℕ) (c : Place) (r : RecordAt) (q : Searched) (d : r ≡ recordAt s 0) where

@@ -1,10 +1,8 @@
 pub mod Record
 pub mod Kind
 pub mod Body
-pub mod Plain
 pub mod Table
 pub mod WellFormed
 pub mod Reached
-pub mod ShortEnd
 pub mod Lookup
 pub mod Text

@@ -1,5 +1,4 @@
 -- Looking a version up: the table is judged before the version.
-use mathlib.Core.Path.{_≡_}
 use mathlib.Core.Bool.{Bool, true, false}
 use mathlib.Core.List.{List, []}
 use Prim.Native.Nat.{ℕ}
@@ -13,8 +12,6 @@ use Rattle.reading.specs.Value.{Value, valueIn}
 use Rattle.ends.specs.Cut.{lePlace}
 use Rattle.table.specs.declared.lookup.Looked.{Looked}
 use Rattle.table.specs.declared.lookup.Looked.the-variants.{Yes, No, Table, Version}
-use Rattle.table.specs.declared.short_search.Quick.{Quick}
-use Rattle.table.specs.declared.short_search.Quick.the-variants.{Unknown, Held}
 use Rattle.table.specs.Table.{Tabled, refused, ranges, tableOf}
 
 abbrev pub yesOrNo : Bool → Looked
@@ -43,8 +40,3 @@ withoutLabel v = record {
 
 unfoldable pub looked : List ℕ → List ℕ → Looked
 looked table text = lookedUp (tableOf table) (versionOf text .verdict) (valueIn text)
-
--- where the short way answers, the rules answer the same
-abbrev pub LookedShortly : List ℕ → List ℕ → Quick → Type 0
-LookedShortly table text Unknown = Unit {0}
-LookedShortly table text (Held held) = judged Accepted held ≡ looked table text

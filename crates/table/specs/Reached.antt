@@ -8,7 +8,7 @@ use lib.ListN.{length}
 use Rattle.answers.specs.Written.{refusal}
 use Rattle.chars.specs.Pick.{pick}
 use Rattle.ranges.specs.Range.{mem}
-use Rattle.reading.specs.Reading.{noVersion}
+use Rattle.parts.specs.Fields.{noVersion}
 use Rattle.ends.specs.declared.end.Side.{Side}
 use Rattle.ends.specs.Cut.{Place, lePlace}
 use Rattle.ends.specs.End.{placeAt, placeOf, bottom}

@@ -2,7 +2,7 @@
 use crate::bytes::same_bytes;
 use answers::Written;
 use normal::text::print_version;
-use reading::fields::Version;
+use parts::fields::Version;
 use reading::text::Verdict;
 ghost use mathlib.Core.Path.{_≡_};
 ghost use Rattle.reading.specs.declared.text.Verdict.the-variants.{Accepted};

@@ -8,7 +8,7 @@ use crate::record::record_at;
 use ends::end::End;
 use ends::end::Side;
 use ends::end::at_most;
-use reading::fields::Version;
+use parts::fields::Version;
 ghost use mathlib.Core.Path.{_≡_};
 ghost use Rattle.ends.specs.End.{placeOf};
 ghost use Rattle.table.specs.Record.{recordAt};

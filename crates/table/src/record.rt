@@ -1,7 +1,5 @@
 // The records of a table.
 use chars::place::byte_at;
-ghost use Prim.Native.Nat.{_+_, _≤_};
-ghost use lib.ListN.{length};
 ghost use Rattle.table.specs.Record.{TwoBytes, Within, twoAt, recordAt};
 
 // A record that stands whole in the table: its kind's number, where its body starts, and the place behind it.
@@ -10,11 +8,13 @@ pub enum RecordAt {
     Found(usize, usize, usize),
 }
 
-// A number in two bytes, the lower first.
-pub(crate) fn two_at(s: &[u8], at: usize) -> usize
-    requires { ⌜ at + 2 ≤ length (now s) ⌝ }
+// A number in two bytes, the lower first. What lies past the end counts as 0.
+pub fn two_at(s: &[u8], at: usize) -> usize
     ensures { λ r. ⌜ TwoBytes (twoAt (now (s .entry)) at) r ⌝ }
 {
+    if s.len() <= at {
+        return 0;
+    }
     let low = byte_at(s, at);
     let high = byte_at(s, at + 1);
     low as usize + 256 * (high as usize)

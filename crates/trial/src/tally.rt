@@ -1,8 +1,8 @@
 // Both answers to each made question, and how often they were which.
 use crate::made::put_candidate;
+use accepting::accept::Accepts;
 use answers::Written;
 use chars::place::part;
-use clause::accept::Accepts;
 use decimal::put::put_bytes;
 use decimal::put::put_number;
 use table::lookup::Looked;
@@ -35,7 +35,7 @@ pub(crate) fn nothing() -> Tally {
 }
 
 fn looked_up(table: &[u8], version: &[u8], said: Accepts) -> Both {
-    match table::lookup::lookup(table, version) {
+    match seek::lookup(table, version) {
         Looked::Yes => match said {
             Accepts::Yes => Both::Yes,
             Accepts::No => Both::Differ,
@@ -64,7 +64,7 @@ fn unlisted(said: Accepts) -> Both {
 }
 
 fn compared(list: &[u8], table: &[u8], compiled: Written, version: &[u8]) -> Both {
-    let said = clause::accepts(list, version);
+    let said = accepting::accepts(list, version);
     match compiled {
         Written::Length(n) => looked_up(part(table, 0, n), version, said),
         Written::Refused(_) => unlisted(said),

@@ -11,11 +11,11 @@ use lib.ListN.{length, getD, drop}
 use Rattle.chars.specs.Text.{ascii}
 use Rattle.chars.specs.Class.{blank, between, front}
 use Rattle.chars.specs.Case.{startsWith}
-use Rattle.reading.specs.declared.places.NumberAt.the-variants.{Read}
+use Rattle.parts.specs.declared.places.NumberAt.the-variants.{Read}
 use Rattle.reading.specs.declared.text.Verdict.the-variants.{Accepted}
-use Rattle.reading.specs.Places.{separatorEnd, numberAt, markedNumber}
-use Rattle.reading.specs.Head.{leadEnd}
-use Rattle.reading.specs.Suffix.{preAt, postAt, devAt}
+use Rattle.parts.specs.Places.{separatorEnd, numberAt, markedNumber}
+use Rattle.parts.specs.Head.{leadEnd}
+use Rattle.parts.specs.Suffix.{preAt, postAt, devAt}
 use Rattle.reading.specs.Label.{wordEnd}
 use Rattle.reading.specs.Reading.{longest, patternAs}
 use Rattle.version.specs.Refusals.{

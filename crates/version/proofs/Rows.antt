@@ -7,7 +7,7 @@ use Prim.Native.Nat.{ℕ, _≤_, _<_}
 use native.Mathlib.Omega.{arith}
 use lib.ListN.{length}
 use borrow.Author.Tests.{lt-ltb}
-use Rattle.reading.specs.Head.{headRefused, headOf}
+use Rattle.parts.specs.Head.{headRefused, headOf}
 use Rattle.reading.specs.Reading.{longest, refusedWith, patternAs}
 use Rattle.reading.proofs.Wholes.{whole-head}
 use Rattle.version.specs.Refusals.{Fault, Row}

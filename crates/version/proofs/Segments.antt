@@ -5,9 +5,9 @@ use mathlib.Core.List.{List}
 use Prim.Native.Nat.{ℕ, suc, _-_, _<_}
 use native.Mathlib.Omega.{arith}
 use borrow.Author.Tests.{eq-eqb}
-use Rattle.reading.specs.declared.fields.Local.{Local}
-use Rattle.reading.specs.Fields.{noLocal, pushedSpan}
-use Rattle.reading.specs.Places.{separatorEnd}
+use Rattle.parts.specs.declared.fields.Local.{Local}
+use Rattle.parts.specs.Fields.{noLocal, pushedSpan}
+use Rattle.parts.specs.Places.{separatorEnd}
 use Rattle.reading.specs.Label.{wordEnd, spanning, labelRead, labelRefused, segmentsFrom, labelAt}
 use Rattle.reading.proofs.Labels.{label-none, segment-empty, segment-full, segment-last, segment-more}
 use Rattle.version.specs.Refusals.{DevRead, Segmented, Labelled}

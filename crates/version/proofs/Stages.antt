@@ -10,12 +10,12 @@ use borrow.Author.Tests.{lt-ltb, le-ltb}
 use Rattle.chars.specs.Text.{ascii}
 use Rattle.chars.specs.Class.{blank, between, front}
 use Rattle.chars.specs.Case.{startsWith}
-use Rattle.reading.specs.declared.fields.Version.{Version}
-use Rattle.reading.specs.declared.suffix.PreStep.the-variants.{TooBig as PreTooBig}
-use Rattle.reading.specs.declared.suffix.PartStep.the-variants.{TooBig as PartTooBig}
+use Rattle.parts.specs.declared.fields.Version.{Version}
+use Rattle.parts.specs.declared.suffix.PreStep.the-variants.{TooBig as PreTooBig}
+use Rattle.parts.specs.declared.suffix.PartStep.the-variants.{TooBig as PartTooBig}
 use Rattle.reading.specs.declared.text.Verdict.the-variants.{Accepted}
-use Rattle.reading.specs.Head.{headOf}
-use Rattle.reading.specs.Suffix.{preAt, postAt, devAt, suffixFrom, afterPre, afterPost, suffixAt}
+use Rattle.parts.specs.Head.{headOf}
+use Rattle.parts.specs.Suffix.{preAt, postAt, devAt, suffixFrom, afterPre, afterPost, suffixAt}
 use Rattle.reading.specs.Label.{wordEnd, labelRefused, labelAt}
 use Rattle.reading.specs.Reading.{
   longest,

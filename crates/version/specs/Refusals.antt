@@ -8,14 +8,14 @@ use lib.ListN.{length, getD, drop}
 use Rattle.chars.specs.Text.{ascii}
 use Rattle.chars.specs.Class.{blank, between, front}
 use Rattle.chars.specs.Case.{startsWith}
-use Rattle.reading.specs.declared.fields.Pre.{Pre}
-use Rattle.reading.specs.declared.fields.Part.{Part}
-use Rattle.reading.specs.declared.places.NumberAt.the-variants.{Absent, Read, TooBig}
-use Rattle.reading.specs.declared.suffix.PreStep.the-variants.{Read as PreIs, TooBig as PreTooBig}
-use Rattle.reading.specs.declared.suffix.PartStep.the-variants.{Read as PartIs, TooBig as PartTooBig}
-use Rattle.reading.specs.Places.{separatorEnd, numberAt, markedNumber}
-use Rattle.reading.specs.Head.{leadEnd}
-use Rattle.reading.specs.Suffix.{preAt, postAt, devAt}
+use Rattle.parts.specs.declared.fields.Pre.{Pre}
+use Rattle.parts.specs.declared.fields.Part.{Part}
+use Rattle.parts.specs.declared.places.NumberAt.the-variants.{Absent, Read, TooBig}
+use Rattle.parts.specs.declared.suffix.PreStep.the-variants.{Read as PreIs, TooBig as PreTooBig}
+use Rattle.parts.specs.declared.suffix.PartStep.the-variants.{Read as PartIs, TooBig as PartTooBig}
+use Rattle.parts.specs.Places.{separatorEnd, numberAt, markedNumber}
+use Rattle.parts.specs.Head.{leadEnd}
+use Rattle.parts.specs.Suffix.{preAt, postAt, devAt}
 use Rattle.reading.specs.Label.{wordEnd}
 use Rattle.reading.specs.Reading.{longest}
 

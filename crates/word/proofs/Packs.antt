@@ -12,9 +12,9 @@ use lib.Dec.{eqb, eqb·suc-zero}
 use lib.ListN.{take}
 use borrow.Author.Tests.{eq-eqb, ne-eqb}
 use Rattle.answers.specs.declared.Refusal.{Refusal}
-use Rattle.reading.specs.declared.fields.Pre.{Pre}
-use Rattle.reading.specs.declared.fields.Part.{Part}
-use Rattle.reading.specs.declared.fields.Version.{Version}
+use Rattle.parts.specs.declared.fields.Pre.{Pre}
+use Rattle.parts.specs.declared.fields.Part.{Part}
+use Rattle.parts.specs.declared.fields.Version.{Version}
 use Rattle.reading.specs.declared.text.Reading.{Reading}
 use Rattle.reading.specs.declared.text.Verdict.the-variants.{Accepted, Refused as NotRead}
 use Rattle.reading.specs.Reading.{accepted, patternAs, versionOf}

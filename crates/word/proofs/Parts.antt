@@ -9,10 +9,10 @@ use lib.Seq.{getD-take}
 use borrow.Author.Needs.{length-unmapped}
 use borrow.Author.Tests.{le-leb, lt-leb}
 use Rattle.chars.specs.declared.spelling.PreKind.{PreKind}
-use Rattle.reading.specs.declared.fields.Pre.{Pre}
-use Rattle.reading.specs.declared.fields.Pre.the-variants.{Absent as NoPre, Is as IsPre}
-use Rattle.reading.specs.declared.fields.Part.{Part}
-use Rattle.reading.specs.declared.fields.Part.the-variants.{Absent as NoPart, Is as IsPart}
+use Rattle.parts.specs.declared.fields.Pre.{Pre}
+use Rattle.parts.specs.declared.fields.Pre.the-variants.{Absent as NoPre, Is as IsPre}
+use Rattle.parts.specs.declared.fields.Part.{Part}
+use Rattle.parts.specs.declared.fields.Part.the-variants.{Absent as NoPart, Is as IsPart}
 use Rattle.word.specs.declared.small.Fitted.{Fitted}
 use Rattle.word.specs.declared.small.Fitted.the-variants.{Fits, Large}
 use Rattle.word.specs.Small.{smallRelease, releaseWord, alone, onlySuffix}

@@ -8,10 +8,10 @@ use Rattle.chars.specs.declared.spelling.PreKind.{PreKind}
 use Rattle.chars.specs.declared.spelling.PreKind.the-variants.{Alpha, Beta, Rc}
 use Rattle.order.specs.Ordering.{lt, gt, also}
 use Rattle.order.proofs.Ordering.{also-eq}
-use Rattle.reading.specs.declared.fields.Pre.{Pre}
-use Rattle.reading.specs.declared.fields.Pre.the-variants.{Absent as NoPre, Is as IsPre}
-use Rattle.reading.specs.declared.fields.Part.{Part}
-use Rattle.reading.specs.declared.fields.Part.the-variants.{Absent as NoPart, Is as IsPart}
+use Rattle.parts.specs.declared.fields.Pre.{Pre}
+use Rattle.parts.specs.declared.fields.Pre.the-variants.{Absent as NoPre, Is as IsPre}
+use Rattle.parts.specs.declared.fields.Part.{Part}
+use Rattle.parts.specs.declared.fields.Part.the-variants.{Absent as NoPart, Is as IsPart}
 use Rattle.compare.specs.Key.{preKind, kindOf, keyOf}
 use Rattle.compare.specs.Versions.{compareKey}
 use Rattle.word.specs.Small.{onlySuffix}

@@ -5,10 +5,10 @@ use mathlib.Core.Option.{Option, none, some}
 use Prim.Native.Nat.{ℕ, _+_, _*_, _^_}
 use lib.Dec.{eqb, leb}
 use lib.ListN.{length, getD}
-use Rattle.reading.specs.declared.fields.Pre.{Pre}
-use Rattle.reading.specs.declared.fields.Pre.the-variants.{Absent as NoPre, Is as IsPre}
-use Rattle.reading.specs.declared.fields.Part.{Part}
-use Rattle.reading.specs.declared.fields.Part.the-variants.{Absent as NoPart, Is as IsPart}
+use Rattle.parts.specs.declared.fields.Pre.{Pre}
+use Rattle.parts.specs.declared.fields.Pre.the-variants.{Absent as NoPre, Is as IsPre}
+use Rattle.parts.specs.declared.fields.Part.{Part}
+use Rattle.parts.specs.declared.fields.Part.the-variants.{Absent as NoPart, Is as IsPart}
 use Rattle.reading.specs.Value.{Label, Value}
 use Rattle.compare.specs.Key.{kindOf}
 

@@ -4,7 +4,7 @@ use crate::small::release_word;
 use crate::small::suffix_number;
 use answers::Refusal;
 use compare::key::kind_of;
-use reading::fields::Version;
+use parts::fields::Version;
 ghost use mathlib.Core.Path.{_≡_};
 ghost use mathlib.Core.List.{[]};
 ghost use Rattle.reading.specs.Value.{valueOf};

@@ -1,7 +1,7 @@
 // The parts of a word: each fits, or the version is not small.
-use reading::fields::Part;
-use reading::fields::Pre;
-use reading::fields::Release;
+use parts::fields::Part;
+use parts::fields::Pre;
+use parts::fields::Release;
 ghost use mathlib.Core.Path.{_≡_};
 ghost use Prim.Native.Nat.{_-_, _^_};
 ghost use lib.ListN.{getD, take};

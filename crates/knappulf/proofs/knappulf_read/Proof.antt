@@ -1,8 +1,8 @@
 -- `knappulf::knappulf_read` meets its contract: the verdict is told, and decides on the fields.
 -- Assumes nothing.
 use borrow.Author.Needs.{needs}
-use Rattle.knappulf.proofs.Shorts.{short-version, told-version}
-use Rattle.knappulf.proofs.Tells.{told-as}
+use Rattle.boundary.proofs.Shorts.{short-version, told-version}
+use Rattle.boundary.proofs.Tells.{told-as}
 use Rattle.knappulf.proofs.knappulf_read.Statement.{statement}
 use Rattle.knappulf.proofs.knappulf_read.Tie as tie
 

@@ -4,7 +4,7 @@ use mathlib.Core.Path.{_≡_, refl}
 use Prim.Native.Nat.{_-_, _≤_}
 use lib.ListN.{length}
 use borrow.Author.Needs.{needs}
-use Rattle.reading.specs.Fields.{noLocal}
+use Rattle.parts.specs.Fields.{noLocal}
 use Rattle.reading.specs.Label.{segmentsFrom}
 use Rattle.reading.proofs.Labels.{segment-empty, segment-full, segment-last, segment-more}
 use Rattle.reading.proofs.label.read_segments.Statement.{statement}

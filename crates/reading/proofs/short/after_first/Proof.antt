@@ -2,7 +2,7 @@
 -- Assumes nothing.
 use mathlib.Core.Path.{refl}
 use borrow.Author.Needs.{needs}
-use Rattle.reading.proofs.AtPlaces.{numbers, read-within}
+use Rattle.parts.proofs.AtPlaces.{numbers, read-within}
 use Rattle.reading.specs.Short.{Filled, afterFirst}
 use Rattle.reading.proofs.short.after_first.Statement.{statement}
 use Rattle.reading.proofs.short.after_first.Tie as tie

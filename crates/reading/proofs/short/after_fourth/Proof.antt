@@ -2,7 +2,7 @@
 -- Assumes nothing.
 use mathlib.Core.Path.{refl}
 use borrow.Author.Needs.{needs}
-use Rattle.reading.proofs.AtPlaces.{numbers}
+use Rattle.parts.proofs.AtPlaces.{numbers}
 use Rattle.reading.specs.Short.{Filled, afterFourth}
 use Rattle.reading.proofs.short.after_fourth.Statement.{statement}
 use Rattle.reading.proofs.short.after_fourth.Tie as tie

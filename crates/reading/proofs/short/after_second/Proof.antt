@@ -2,7 +2,7 @@
 -- Assumes nothing.
 use mathlib.Core.Path.{refl}
 use borrow.Author.Needs.{needs}
-use Rattle.reading.proofs.AtPlaces.{numbers, read-within}
+use Rattle.parts.proofs.AtPlaces.{numbers, read-within}
 use Rattle.reading.specs.Short.{Filled, afterSecond}
 use Rattle.reading.proofs.short.after_second.Statement.{statement}
 use Rattle.reading.proofs.short.after_second.Tie as tie

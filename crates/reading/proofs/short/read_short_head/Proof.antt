@@ -2,8 +2,8 @@
 -- Assumes nothing.
 use borrow.Author.Needs.{needs}
 use Rattle.chars.proofs.Cases.{cases}
+use Rattle.parts.proofs.AtPlaces.{numbers, read-within}
 use Rattle.reading.specs.Short.{shortHeadOf}
-use Rattle.reading.proofs.AtPlaces.{numbers, read-within}
 use Rattle.reading.proofs.short.read_short_head.Statement.{statement}
 use Rattle.reading.proofs.short.read_short_head.Tie as tie
 

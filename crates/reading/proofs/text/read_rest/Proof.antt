@@ -1,7 +1,7 @@
 -- `reading::text::read_rest` meets its contract: one law for each way out.
 -- Assumes nothing.
 use borrow.Author.Needs.{needs}
-use Rattle.reading.proofs.Suffixes.{suffix-within, suffix-big-within}
+use Rattle.parts.proofs.Suffixes.{suffix-within, suffix-big-within}
 use Rattle.reading.proofs.Wholes.{rest-big, rest-read}
 use Rattle.reading.proofs.text.read_rest.Statement.{statement}
 use Rattle.reading.proofs.text.read_rest.Tie as tie

@@ -1,6 +1,6 @@
--- `table::lookup::lookup` meets its contract.
+-- `table::lookup::lookup` meets its contract: one law for each way out.
 -- Assumes nothing.
-use Rattle.table.proofs.ShortSearch.{lookup-quick}
+use Rattle.table.proofs.Lookups.{lookup-refused, lookup-held}
 use borrow.Author.Needs.{needs}
 use Rattle.table.proofs.lookup.lookup.Statement.{statement}
 use Rattle.table.proofs.lookup.lookup.Tie as tie
@@ -10,9 +10,9 @@ lookup-spec =
     tie.close
     (tie.spec
     (λ c κs. search needs)
-    (λ c. search needs)
     (λ c κs. search needs)
     (λ c. search needs)
-    (λ c κs. search needs)
     (λ c. search needs)
-    (λ c. search lookup-quick))
+    (λ c κs. search needs)
+    (λ c. search lookup-refused)
+    (λ c. search lookup-held))

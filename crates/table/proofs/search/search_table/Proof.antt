@@ -1,7 +1,7 @@
 -- `table::search::search_table` meets its contract: one law for each way out.
 -- Assumes nothing.
 use Rattle.table.proofs.Reading.{found-ordered}
-use Rattle.table.proofs.Searching.{first-missing, first-other, count-long, count-room, count-over, count-read}
+use Rattle.table.proofs.Searching.{first-missing, first-other, count-long, count-over, count-read}
 use borrow.Author.Needs.{needs}
 use Rattle.table.proofs.search.search_table.Statement.{statement}
 use Rattle.table.proofs.search.search_table.Tie as tie
@@ -22,7 +22,7 @@ search-table-spec =
     (λ c. search found-ordered)
     (λ c κs. search needs)
     (λ c. search count-long)
-    (λ c κs. search count-room)
+    (λ c κs. search needs)
     (λ c κs. search needs)
     (λ c. search count-over)
     (λ c κs. search needs)

@@ -1,0 +1,27 @@
+-- `accepting::short::find_trimmed` meets its contract: one law for each way out.
+-- Assumes nothing.
+use Rattle.clause.proofs.Clauses.{operator-ends, operator-fits}
+use Rattle.accepting.proofs.ShortClauses.{trimmed-found}
+use borrow.Author.Needs.{needs}
+use Rattle.accepting.proofs.short.find_trimmed.Statement.{statement}
+use Rattle.accepting.proofs.short.find_trimmed.Tie as tie
+
+pub find-trimmed-spec : {M : Type 1} → statement M
+find-trimmed-spec =
+    tie.close
+    (tie.spec
+    (λ c κs. search needs)
+    (λ c. search needs)
+    (λ c. search needs)
+    (λ c. search needs)
+    (λ c. search needs)
+    (λ c κs. search needs)
+    (λ c. search needs)
+    (λ c. search needs)
+    (λ c. search needs)
+    (λ c. search operator-fits)
+    (λ c. search operator-ends)
+    (λ c. search operator-ends)
+    (λ c. search needs)
+    (λ c κs. search needs)
+    (λ c. search trimmed-found))

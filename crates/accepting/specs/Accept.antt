@@ -1,0 +1,81 @@
+-- What one clause accepts, and what a list does. Labels are ignored: `comparePublic` does not see them, nor does a match.
+use mathlib.Core.Bool.{Bool, true, false, not, _&&_}
+use mathlib.Core.List.{List, [], _∷_}
+use Prim.Native.Nat.{ℕ}
+use Rattle.order.specs.Ordering.{isLe, isEq, isGe, isLt, isGt}
+use Rattle.order.specs.declared.Order.{Order}
+use Rattle.order.specs.declared.Order.the-variants.{Less, Equal as Same, Greater}
+use Rattle.answers.specs.declared.Refusal.{Refusal}
+use Rattle.answers.specs.Written.{refusal}
+use Rattle.reading.specs.declared.text.Verdict.{Verdict}
+use Rattle.reading.specs.declared.text.Verdict.the-variants.{Accepted, Refused}
+use Rattle.reading.specs.Reading.{versionOf}
+use Rattle.reading.specs.Value.{Value, valueOf, valueIn}
+use Rattle.compare.specs.Versions.{comparePublic}
+use Rattle.prefixes.specs.Prefix.{prefixMatches, shorter}
+use Rattle.clause.specs.declared.operator.Operator.{Operator}
+use Rattle.clause.specs.declared.operator.Operator.the-variants.{Equal, NotEqual, Compatible, AtMost, AtLeast, Below, Above}
+use Rattle.clause.specs.declared.clause.Clause.{Clause}
+use Rattle.accepting.specs.declared.accept.Said.{Said}
+use Rattle.accepting.specs.declared.accept.Accepts.{Accepts}
+use Rattle.accepting.specs.declared.accept.Accepts.the-variants.{Yes, No, List as OfList, Version as OfVersion}
+use Rattle.clause.specs.List.{Listing, refused, clauses, listOf}
+
+-- what the code's name for an order says
+abbrev pub saysAtMost : Order → Bool
+saysAtMost Less = true
+saysAtMost Same = true
+saysAtMost Greater = false
+
+abbrev pub saysSame : Order → Bool
+saysSame Less = false
+saysSame Same = true
+saysSame Greater = false
+
+abbrev pub saysAtLeast : Order → Bool
+saysAtLeast Less = false
+saysAtLeast Same = true
+saysAtLeast Greater = true
+
+-- `==V`: equal in order; `==V.*`: a match
+abbrev pub equals : Bool → Value → Value → Bool
+equals false v w = isEq (comparePublic w v)
+equals true v w = prefixMatches v w
+
+-- an operator, whether a wildcard follows, its version v, and the candidate w
+unfoldable pub holds : Operator → Bool → Value → Value → Bool
+holds Equal wildcard v w = equals wildcard v w
+holds NotEqual wildcard v w = not (equals wildcard v w)
+holds Compatible wildcard v w = isGe (comparePublic w v) && prefixMatches (shorter v) w
+holds AtMost wildcard v w = isLe (comparePublic w v)
+holds AtLeast wildcard v w = isGe (comparePublic w v)
+holds Below wildcard v w = isLt (comparePublic w v)
+holds Above wildcard v w = isGt (comparePublic w v)
+
+abbrev pub clauseValue : Clause → Value
+clauseValue c = valueOf [] (c .version)
+
+abbrev pub clauseAccepts : Clause → Value → Bool
+clauseAccepts c w = holds (c .operator) (c .wildcard) (clauseValue c) w
+
+-- what a clause says of w, where those before it say `before`
+abbrev pub saying : Bool → Clause → Value → Said
+saying before c w = record { refusal = c .refusal; place = c .place; holds = before && clauseAccepts c w }
+
+-- each clause by itself
+abbrev pub allAccept : List Clause → Value → Bool
+allAccept [] w = true
+allAccept (c ∷ cs) w = clauseAccepts c w && allAccept cs w
+
+abbrev pub yesOrNo : Bool → Accepts
+yesOrNo true = Yes
+yesOrNo false = No
+
+-- the list is judged first
+abbrev pub judgedBy : Listing → Verdict → Value → Accepts
+judgedBy (refused number place) verdict w = OfList (refusal number place)
+judgedBy (clauses cs) (Refused refusal) w = OfVersion refusal
+judgedBy (clauses cs) Accepted w = yesOrNo (allAccept cs w)
+
+unfoldable pub accepted : List ℕ → List ℕ → Accepts
+accepted s t = judgedBy (listOf s) (versionOf t .verdict) (valueIn t)

@@ -1,0 +1,4 @@
+pub mod Rows
+pub mod Shorts
+pub mod Tells
+pub mod Words

@@ -1,0 +1,80 @@
+-- Answers in numbers: a call returns the refusal's number, 0 for none, and leaves three numbers in the lent answer: the value, the place and which text.
+use mathlib.Core.Path.{_≡_}
+use mathlib.Core.Bool.{Bool, true, false}
+use mathlib.Core.List.{List, [], _∷_}
+use Prim.Native.Nat.{ℕ}
+use Rattle.answers.specs.declared.Refusal.{Refusal}
+use Rattle.answers.specs.declared.Written.{Written}
+use Rattle.answers.specs.declared.Written.the-variants.{Length, Refused as NotWritten}
+use Rattle.reading.specs.declared.text.Verdict.{Verdict}
+use Rattle.reading.specs.declared.text.Verdict.the-variants.{Accepted, Refused as NotRead}
+use Rattle.compare.specs.declared.text.Compared.{Compared}
+use Rattle.compare.specs.declared.text.Compared.the-variants.{Less, Equal, Greater, First, Second}
+use Rattle.word.specs.declared.packed.Worded.{Worded}
+use Rattle.word.specs.declared.packed.Worded.the-variants.{Word, NotSmall, Refused as NotWorded}
+use Rattle.clause.specs.declared.list.Checked.{Checked}
+use Rattle.clause.specs.declared.list.Checked.the-variants.{Count, Refused as NotCounted}
+use Rattle.accepting.specs.declared.accept.Accepts.{Accepts}
+use Rattle.accepting.specs.declared.accept.Accepts.the-variants.{Yes as Accepted-by, No as Not-accepted, List as OfList, Version as OfVersion}
+use Rattle.table.specs.declared.lookup.Looked.{Looked}
+use Rattle.table.specs.declared.lookup.Looked.the-variants.{Yes as Held, No as Not-held, Table as OfTable, Version as OfCandidate}
+use Rattle.boundary.specs.declared.said.Said.{Said}
+
+abbrev pub answered : ℕ → Said
+answered n = record { number = 0; value = n; place = 0; of = 0 }
+
+-- a refusal of the first text, list or table, or of the second
+abbrev pub refusedOf : ℕ → Refusal → Said
+refusedOf which x = record { number = x .number; value = 0; place = x .place; of = which }
+
+abbrev pub flag : Bool → ℕ
+flag false = 0
+flag true = 1
+
+-- the value is whether a wildcard follows
+abbrev pub ofVerdict : Verdict → Bool → Said
+ofVerdict Accepted wildcard = answered (flag wildcard)
+ofVerdict (NotRead x) wildcard = refusedOf 1 x
+
+-- the length
+abbrev pub ofWritten : Written → Said
+ofWritten (Length n) = answered n
+ofWritten (NotWritten x) = refusedOf 1 x
+
+abbrev pub ofCompared : Compared → Said
+ofCompared Less = answered 0
+ofCompared Equal = answered 1
+ofCompared Greater = answered 2
+ofCompared (First x) = refusedOf 1 x
+ofCompared (Second x) = refusedOf 2 x
+
+-- the word, 0 for none: no version has the word 0
+abbrev pub ofWorded : Worded → Said
+ofWorded (Word w) = answered (w .0)
+ofWorded NotSmall = answered 0
+ofWorded (NotWorded x) = refusedOf 1 x
+
+-- how many clauses
+abbrev pub ofChecked : Checked → Said
+ofChecked (Count n) = answered n
+ofChecked (NotCounted x) = refusedOf 1 x
+
+abbrev pub ofAccepts : Accepts → Said
+ofAccepts Not-accepted = answered 0
+ofAccepts Accepted-by = answered 1
+ofAccepts (OfList x) = refusedOf 1 x
+ofAccepts (OfVersion x) = refusedOf 2 x
+
+abbrev pub ofLooked : Looked → Said
+ofLooked Not-held = answered 0
+ofLooked Held = answered 1
+ofLooked (OfTable x) = refusedOf 1 x
+ofLooked (OfCandidate x) = refusedOf 2 x
+
+abbrev pub left : Said → List ℕ
+left said = said .value ∷ said .place ∷ said .of ∷ []
+
+-- what a call returned and left in the answer says this
+pub record Told (said : Said) (answer : List ℕ) (r : ℕ) : Type 0 where
+  pub returns : r ≡ said .number
+  pub leaves : answer ≡ left said

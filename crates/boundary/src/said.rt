@@ -1,0 +1,120 @@
+// Answers in numbers: what a call returns, and what it leaves in the lent answer.
+use accepting::accept::Accepts;
+use answers::Refusal;
+use answers::Written;
+use clause::list::Checked;
+use compare::text::Compared;
+use reading::text::Verdict;
+use table::lookup::Looked;
+use word::packed::Worded;
+ghost use mathlib.Core.Path.{_≡_};
+ghost use Rattle.boundary.specs.Said.{Told, answered, refusedOf, ofVerdict, ofWritten, ofCompared, ofWorded, ofChecked, ofAccepts, ofLooked};
+
+// A refusal's number and place, and which of the two texts it is about; or a value, with 0 for the rest.
+pub struct Said {
+    pub number: u8,
+    pub value: u64,
+    pub place: u64,
+    pub of: u64,
+}
+
+fn answer(value: u64) -> Said
+    ensures { λ r. ⌜ r ≡ answered value ⌝ }
+{
+    Said {
+        number: 0,
+        value,
+        place: 0,
+        of: 0,
+    }
+}
+
+fn refused(of: u64, refusal: Refusal) -> Said
+    ensures { λ r. ⌜ r ≡ refusedOf of refusal ⌝ }
+{
+    Said {
+        number: refusal.number,
+        value: 0,
+        place: refusal.place as u64,
+        of,
+    }
+}
+
+pub fn of_verdict(verdict: Verdict, wildcard: bool) -> Said
+    ensures { λ r. ⌜ r ≡ ofVerdict verdict wildcard ⌝ }
+{
+    match verdict {
+        Verdict::Accepted => answer(wildcard as u64),
+        Verdict::Refused(refusal) => refused(1, refusal),
+    }
+}
+
+pub fn of_written(written: Written) -> Said
+    ensures { λ r. ⌜ r ≡ ofWritten written ⌝ }
+{
+    match written {
+        Written::Length(length) => answer(length as u64),
+        Written::Refused(refusal) => refused(1, refusal),
+    }
+}
+
+pub fn of_compared(compared: Compared) -> Said
+    ensures { λ r. ⌜ r ≡ ofCompared compared ⌝ }
+{
+    match compared {
+        Compared::Less => answer(0),
+        Compared::Equal => answer(1),
+        Compared::Greater => answer(2),
+        Compared::First(refusal) => refused(1, refusal),
+        Compared::Second(refusal) => refused(2, refusal),
+    }
+}
+
+pub fn of_worded(worded: Worded) -> Said
+    ensures { λ r. ⌜ r ≡ ofWorded worded ⌝ }
+{
+    match worded {
+        Worded::Word(word) => answer(word.0),
+        Worded::NotSmall => answer(0),
+        Worded::Refused(refusal) => refused(1, refusal),
+    }
+}
+
+pub fn of_checked(checked: Checked) -> Said
+    ensures { λ r. ⌜ r ≡ ofChecked checked ⌝ }
+{
+    match checked {
+        Checked::Count(count) => answer(count as u64),
+        Checked::Refused(refusal) => refused(1, refusal),
+    }
+}
+
+pub fn of_accepts(accepts: Accepts) -> Said
+    ensures { λ r. ⌜ r ≡ ofAccepts accepts ⌝ }
+{
+    match accepts {
+        Accepts::No => answer(0),
+        Accepts::Yes => answer(1),
+        Accepts::List(refusal) => refused(1, refusal),
+        Accepts::Version(refusal) => refused(2, refusal),
+    }
+}
+
+pub fn of_looked(looked: Looked) -> Said
+    ensures { λ r. ⌜ r ≡ ofLooked looked ⌝ }
+{
+    match looked {
+        Looked::No => answer(0),
+        Looked::Yes => answer(1),
+        Looked::Table(refusal) => refused(1, refusal),
+        Looked::Version(refusal) => refused(2, refusal),
+    }
+}
+
+// Leaves the value, the place and which text in the answer, and returns the number.
+pub fn tell(said: Said, answer: &mut [u64; 3]) -> u8
+    ensures { λ r. ⌜ Told said (now (answer .exit)) r ⌝ }
+{
+    *answer = [said.value, said.place, said.of];
+    said.number
+}

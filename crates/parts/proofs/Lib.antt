@@ -1,0 +1,4 @@
+pub mod Ended
+pub mod AtPlaces
+pub mod Heads
+pub mod Suffixes

@@ -1,0 +1,4 @@
+pub mod Fields
+pub mod Places
+pub mod Head
+pub mod Suffix

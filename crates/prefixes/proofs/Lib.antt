@@ -1,0 +1,6 @@
+pub mod Anchors
+pub mod Prefixes
+pub mod Matches
+pub mod Bounds
+pub mod Beginnings
+pub mod Nexts

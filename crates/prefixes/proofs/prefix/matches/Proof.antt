@@ -1,0 +1,13 @@
+-- `prefixes::prefix::matches` meets its contract.
+-- Assumes nothing.
+use borrow.Author.Needs.{needs}
+use Rattle.prefixes.proofs.Beginnings.{whole-matches}
+use Rattle.prefixes.proofs.prefix.matches.Statement.{statement}
+use Rattle.prefixes.proofs.prefix.matches.Tie as tie
+
+pub matches-spec : {M : Type 1} → statement M
+matches-spec =
+    tie.close
+    (tie.spec
+    (λ c κs. search needs)
+    (λ c. search whole-matches))
