@@ -2,13 +2,14 @@
 -- Assumes nothing.
 use mathlib.Core.Path.{_≡_, refl}
 use mathlib.Core.Bool.{Bool, true, false}
-use mathlib.Core.List.{List, _∷_, _++_}
+use mathlib.Core.List.{List, [], _∷_, _++_}
 use Prim.Native.Nat.{ℕ}
 use Rattle.bytes.specs.Bytes.{indexOf, indexAfter}
 use Rattle.chars.specs.Text.{ascii}
 use Rattle.lines.specs.declared.window.Window.{Window}
 use Rattle.lines.specs.declared.window.Found.the-variants.{Line, More, End}
 use Rattle.lines.specs.Window.{front, pastCut}
+use Rattle.lines.specs.Run.{linesOf}
 
 abbrev window : ℕ → ℕ → Bool → Bool → Window
 window start end cut done = record { start = start; end = end; cut = cut; done = done }
@@ -50,3 +51,12 @@ rest-dropped = refl
 pub rest-goes-on : pastCut some (window 5 10 true false) ≡ window 10 10 true false
 unfolding pastCut indexOf indexAfter
 rest-goes-on = refl
+
+-- the lines of a whole text: an empty one counts, and a last one without its line feed; behind the last line feed there is none
+pub three-lines : linesOf some ≡ ascii "1.0" ∷ [] ∷ ascii "2.0.5" ∷ []
+unfolding linesOf
+three-lines = refl
+
+pub two-lines : linesOf (ascii "1.0" ++ (10 ∷ 10 ∷ [])) ≡ ascii "1.0" ∷ [] ∷ []
+unfolding linesOf
+two-lines = refl

@@ -1,2 +1,3 @@
 pub mod Answers
 pub mod Agrees
+pub mod Inputs
