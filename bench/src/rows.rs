@@ -28,15 +28,23 @@ impl Texts {
         Texts { texts, lists, tables, specifiers }
     }
 
-    /// Each text with a list of its own.
-    fn pairs(&self) -> impl Iterator<Item = (usize, &str)> {
-        self.texts.iter().enumerate().map(|(i, text)| (i % self.lists.len(), text.as_str()))
+    fn texts(&self) -> Vec<&str> {
+        self.texts.iter().map(String::as_str).collect()
+    }
+
+    fn lists(&self) -> Vec<&str> {
+        self.lists.iter().map(String::as_str).collect()
+    }
+
+    /// Each text with the place of a list.
+    fn pairs(&self) -> Vec<(usize, &str)> {
+        self.texts.iter().enumerate().map(|(i, text)| (i % self.lists.len(), text.as_str())).collect()
     }
 
     /// Each text with the next one.
-    fn neighbours(&self) -> impl Iterator<Item = (&str, &str)> {
+    fn neighbours(&self) -> Vec<(&str, &str)> {
         let count = self.texts.len();
-        (0..count).map(move |i| (self.texts[i].as_str(), self.texts[(i + 1) % count].as_str()))
+        (0..count).map(|i| (self.texts[i].as_str(), self.texts[(i + 1) % count].as_str())).collect()
     }
 }
 
@@ -64,18 +72,23 @@ pub const ROWS: &[Row] = &[
     Row { name: "lookup", measure: lookup },
 ];
 
-fn read(texts: &Texts) -> Measured {
+/// Either side over the same items, one after the other.
+fn each<T: Copy>(items: &[T], mut ours: impl FnMut(T), mut theirs: impl FnMut(T)) -> Measured {
     measure(
-        texts.texts.len(),
-        &mut || {
-            for text in &texts.texts {
-                black_box(&knappulf::read(black_box(text).as_bytes()).expect("accepted"));
-            }
+        items.len(),
+        &mut || items.iter().for_each(|item| ours(black_box(*item))),
+        &mut || items.iter().for_each(|item| theirs(black_box(*item))),
+    )
+}
+
+fn read(texts: &Texts) -> Measured {
+    each(
+        &texts.texts(),
+        |text| {
+            black_box(&knappulf::read(text.as_bytes()).expect("accepted"));
         },
-        &mut || {
-            for text in &texts.texts {
-                black_box(&version(black_box(text)));
-            }
+        |text| {
+            black_box(&version(text));
         },
     )
 }
@@ -83,86 +96,64 @@ fn read(texts: &Texts) -> Measured {
 fn normal(texts: &Texts) -> Measured {
     let mut buffer = [0; knappulf::NORMAL_MOST];
     let mut string = String::with_capacity(knappulf::NORMAL_MOST);
-    measure(
-        texts.texts.len(),
-        &mut || {
-            for text in &texts.texts {
-                black_box(knappulf::normal(black_box(text).as_bytes(), &mut buffer).expect("accepted"));
-            }
+    each(
+        &texts.texts(),
+        |text| {
+            black_box(knappulf::normal(text.as_bytes(), &mut buffer).expect("accepted"));
         },
-        &mut || {
-            for text in &texts.texts {
-                string.clear();
-                write!(string, "{}", version(black_box(text))).expect("a string takes it");
-                black_box(&string);
-            }
+        |text| {
+            string.clear();
+            write!(string, "{}", version(text)).expect("a string takes it");
+            black_box(&string);
         },
     )
 }
 
 fn compare(texts: &Texts) -> Measured {
-    measure(
-        texts.texts.len(),
-        &mut || {
-            for (first, second) in texts.neighbours() {
-                black_box(knappulf::compare(black_box(first).as_bytes(), black_box(second).as_bytes()).expect("accepted"));
-            }
+    each(
+        &texts.neighbours(),
+        |(first, second)| {
+            black_box(knappulf::compare(first.as_bytes(), second.as_bytes()).expect("accepted"));
         },
-        &mut || {
-            for (first, second) in texts.neighbours() {
-                black_box(version(black_box(first)).cmp(&version(black_box(second))));
-            }
+        |(first, second)| {
+            black_box(version(first).cmp(&version(second)));
         },
     )
 }
 
 /// The Rust has its word where it has read a small version.
 fn word(texts: &Texts) -> Measured {
-    measure(
-        texts.texts.len(),
-        &mut || {
-            for text in &texts.texts {
-                black_box(knappulf::word(black_box(text).as_bytes()).expect("accepted"));
-            }
+    each(
+        &texts.texts(),
+        |text| {
+            black_box(knappulf::word(text.as_bytes()).expect("accepted"));
         },
-        &mut || {
-            for text in &texts.texts {
-                black_box(&version(black_box(text)));
-            }
+        |text| {
+            black_box(&version(text));
         },
     )
 }
 
 fn accepts(texts: &Texts) -> Measured {
-    measure(
-        texts.texts.len(),
-        &mut || {
-            for (list, text) in texts.pairs() {
-                let list = texts.lists[list].as_bytes();
-                black_box(knappulf::accepts(black_box(list), black_box(text).as_bytes()).expect("accepted"));
-            }
+    each(
+        &texts.pairs(),
+        |(list, text)| {
+            black_box(knappulf::accepts(texts.lists[list].as_bytes(), text.as_bytes()).expect("accepted"));
         },
-        &mut || {
-            for (list, text) in texts.pairs() {
-                let list = specifiers(black_box(&texts.lists[list]));
-                black_box(list.contains(&version(black_box(text))));
-            }
+        |(list, text)| {
+            black_box(specifiers(&texts.lists[list]).contains(&version(text)));
         },
     )
 }
 
 fn check(texts: &Texts) -> Measured {
-    measure(
-        texts.lists.len(),
-        &mut || {
-            for list in &texts.lists {
-                black_box(knappulf::check(black_box(list).as_bytes()).expect("accepted"));
-            }
+    each(
+        &texts.lists(),
+        |list| {
+            black_box(knappulf::check(list.as_bytes()).expect("accepted"));
         },
-        &mut || {
-            for list in &texts.lists {
-                black_box(&specifiers(black_box(list)));
-            }
+        |list| {
+            black_box(&specifiers(list));
         },
     )
 }
@@ -170,33 +161,25 @@ fn check(texts: &Texts) -> Measured {
 /// The Rust has no table: it prepares a list by reading it.
 fn compile(texts: &Texts) -> Measured {
     let mut buffer = [0; 16384];
-    measure(
-        texts.lists.len(),
-        &mut || {
-            for list in &texts.lists {
-                black_box(knappulf::compile(black_box(list).as_bytes(), &mut buffer).expect("accepted"));
-            }
+    each(
+        &texts.lists(),
+        |list| {
+            black_box(knappulf::compile(list.as_bytes(), &mut buffer).expect("accepted"));
         },
-        &mut || {
-            for list in &texts.lists {
-                black_box(&specifiers(black_box(list)));
-            }
+        |list| {
+            black_box(&specifiers(list));
         },
     )
 }
 
 fn lookup(texts: &Texts) -> Measured {
-    measure(
-        texts.texts.len(),
-        &mut || {
-            for (list, text) in texts.pairs() {
-                black_box(knappulf::lookup(black_box(&texts.tables[list]), black_box(text).as_bytes()).expect("accepted"));
-            }
+    each(
+        &texts.pairs(),
+        |(list, text)| {
+            black_box(knappulf::lookup(&texts.tables[list], text.as_bytes()).expect("accepted"));
         },
-        &mut || {
-            for (list, text) in texts.pairs() {
-                black_box(texts.specifiers[list].contains(&version(black_box(text))));
-            }
+        |(list, text)| {
+            black_box(texts.specifiers[list].contains(&version(text)));
         },
     )
 }
