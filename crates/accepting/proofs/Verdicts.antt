@@ -21,7 +21,7 @@ use Rattle.reading.specs.Value.{Value, valueOf}
 use Rattle.clause.specs.declared.clause.Clause.{Clause}
 use Rattle.accepting.specs.declared.accept.Said.{Said}
 use Rattle.accepting.specs.declared.accept.Accepts.{Accepts}
-use Rattle.accepting.specs.declared.accept.Accepts.the-variants.{Yes, No, List as OfList, Version as OfVersion}
+use Rattle.accepting.specs.declared.accept.Accepts.the-variants.{Yes, List as OfList, Version as OfVersion}
 use Rattle.clause.specs.List.{Listing, refused, clauses, behind, commaAfter, clauseAt, clauseIn, clausesFrom, listOf}
 use Rattle.accepting.specs.Accept.{clauseAccepts, saying, allAccept, yesOrNo, judgedBy, accepted}
 use Rattle.accepting.proofs.accept.Accepts.{the-type}

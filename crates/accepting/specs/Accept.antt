@@ -5,7 +5,6 @@ use Prim.Native.Nat.{ℕ}
 use Rattle.order.specs.Ordering.{isLe, isEq, isGe, isLt, isGt}
 use Rattle.order.specs.declared.Order.{Order}
 use Rattle.order.specs.declared.Order.the-variants.{Less, Equal as Same, Greater}
-use Rattle.answers.specs.declared.Refusal.{Refusal}
 use Rattle.answers.specs.Written.{refusal}
 use Rattle.reading.specs.declared.text.Verdict.{Verdict}
 use Rattle.reading.specs.declared.text.Verdict.the-variants.{Accepted, Refused}

@@ -1,7 +1,6 @@
 -- The known points hold: all of them, by computation.
 -- Assumes nothing.
-use mathlib.Core.Path.{_≡_, refl}
-use mathlib.Core.List.{List}
+use mathlib.Core.Path.{refl}
 use Rattle.order.specs.All.{All}
 use Rattle.reading.specs.Reading.{starred}
 use Rattle.reading.specs.Value.{listed, labelFrom, valueOf}

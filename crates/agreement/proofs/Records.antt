@@ -1,14 +1,11 @@
 -- A record that was written is read again.
 -- Assumes nothing.
-use mathlib.Core.Path.{_≡_, refl, sym, _∙_, ap}
-use mathlib.Core.Bool.{Bool, true, false}
-use mathlib.Core.List.{List, [], _∷_, _++_}
-use mathlib.Core.Option.{Option, none, some}
+use mathlib.Core.Path.{_≡_}
+use mathlib.Core.List.{List, _++_}
 use Prim.Native.Nat.{ℕ, _+_, _-_, _*_, _/_, _%_, _≤_, _<_}
 use native.Mathlib.Omega.{arith}
-use lib.ListN.{length, take, drop, getD, length-append, length-drop}
+use lib.ListN.{length, drop, length-append}
 use lib.Seq.{take-append-seam}
-use Rattle.chars.specs.Pick.{pick}
 use borrow.Author.Tests.{le-ltb}
 use Rattle.roundtrip.proofs.Rests.{byte-here, further, past}
 use Rattle.table.specs.declared.record.RecordAt.the-variants.{Found}

@@ -1,7 +1,7 @@
 -- A table that was written says its ranges again.
 -- Assumes nothing.
-use mathlib.Core.Path.{_≡_, refl, sym, _∙_, ap}
-use mathlib.Core.Bool.{true, false}
+use mathlib.Core.Path.{_≡_, refl}
+use mathlib.Core.Bool.{true}
 use mathlib.Core.List.{List, [], _∷_, _++_}
 use mathlib.Core.Option.{Option, none, some}
 use Prim.Native.Nat.{ℕ, _+_, _≤_, _<_}
@@ -20,7 +20,7 @@ use Rattle.ends.specs.Writable.{Writable, Lower, Upper, Written}
 use Rattle.table.specs.declared.kind.Kind.{Kind}
 use Rattle.table.specs.Record.{twoBytes, twoAt, recordText, recordAt}
 use Rattle.table.specs.Kind.{kindOf}
-use Rattle.table.specs.Text.{lowerKind, upperKind, bodyText, lowerText, upperText, rangesText, tableText}
+use Rattle.table.specs.Text.{lowerKind, upperKind, bodyText, upperText, rangesText, tableText}
 use Rattle.table.specs.Table.{lowerOf, upperOf, ascends, Ended, endIn, ranges, rangesFrom, tableOf}
 use Rattle.agreement.proofs.Records.{Here, two-here, record-next, record-here, body-here}
 use Rattle.table.proofs.Written.{version-here}

@@ -2,8 +2,8 @@
 -- Assumes nothing.
 use mathlib.Core.Path.{_≡_, refl, sym, ap, _∙_}
 use mathlib.Core.List.{List, [], _∷_, _++_, append-nil}
-use Prim.Native.Nat.{ℕ, suc, _+_, _-_, _*_, _^_, _≤_, _<_}
-use native.Mathlib.Nat.{add-zero, zero-add, add-suc}
+use Prim.Native.Nat.{ℕ, suc, _+_, _-_, _*_, _≤_, _<_}
+use native.Mathlib.Nat.{zero-add, add-suc}
 use native.Mathlib.Numerals.{add-one}
 use native.Mathlib.Omega.{arith}
 use lib.ListN.{length, length-append, getD, set, drop, drop-of-length-le}
@@ -19,7 +19,7 @@ use Rattle.reading.specs.declared.segment.Segment.{Segment}
 use Rattle.reading.specs.declared.text.Verdict.{Verdict}
 use Rattle.reading.specs.declared.text.Verdict.the-variants.{Accepted, Refused}
 use Rattle.reading.specs.Segment.{segmentOf, segmentBytes}
-use Rattle.decimal.specs.Put.{onward, Wrote}
+use Rattle.decimal.specs.Put.{Wrote}
 use Rattle.decimal.proofs.Puts.{then}
 use Rattle.boundary.specs.declared.pair.Pair.{Pair}
 use Rattle.boundary.specs.Pair.{segmentPair}

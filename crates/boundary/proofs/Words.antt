@@ -1,6 +1,6 @@
 -- No version has the word 0, so that 0 can stand for none.
 -- Assumes nothing.
-use Prim.Native.Nat.{ℕ, _≤_}
+use Prim.Native.Nat.{_≤_}
 use native.Mathlib.Omega.{arith}
 use Rattle.chars.specs.declared.spelling.PreKind.the-variants.{Alpha, Beta, Rc}
 use Rattle.parts.specs.declared.fields.Pre.{Pre}

@@ -1,9 +1,8 @@
 -- The fields of a version as 89 numbers: nine parts, sixteen release numbers, and four numbers for each of sixteen segments.
-use mathlib.Core.Bool.{Bool}
 use mathlib.Core.List.{List, [], _∷_, _++_}
 use Prim.Native.Nat.{ℕ, zero, suc}
 use lib.Dec.{ltb}
-use lib.ListN.{getD, length}
+use lib.ListN.{getD}
 use Rattle.chars.specs.Pick.{pick}
 use Rattle.parts.specs.declared.fields.Span.{Span}
 use Rattle.parts.specs.declared.fields.Local.{Local}

@@ -7,7 +7,7 @@ use Prim.Native.Nat.{ℕ, _<_}
 use Prim.Native.Char.{code}
 use native.Mathlib.Omega.{arith}
 use lib.Dec.{T, ltb, leb, eqb, eqb→eq}
-use lib.ListN.{length, length-replicate}
+use lib.ListN.{length-replicate}
 use Rattle.chars.specs.Pick.{pick}
 use Rattle.chars.specs.Class.{classOf, other, blank, separator, digit, letter}
 use Rattle.chars.proofs.Table.{every, at}

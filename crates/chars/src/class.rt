@@ -1,5 +1,4 @@
 // The class of each byte, from one table, and runs of bytes of neighbouring classes.
-ghost use mathlib.Core.Path.{_≡_};
 ghost use Prim.Native.Nat.{_<_};
 ghost use Rattle.chars.specs.Class.{Classed, Counted, between};
 

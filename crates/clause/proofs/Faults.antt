@@ -1,17 +1,15 @@
 -- A clause is refused with a number and a place exactly in the case of that row.
 -- Assumes nothing.
 use mathlib.Core.Path.{_≡_, refl, sym, _∙_, ap}
-use mathlib.Core.Bool.{Bool, true, false}
+use mathlib.Core.Bool.{true}
 use mathlib.Core.List.{List}
 use Prim.Native.Nat.{ℕ, _+_, _≤_, _<_}
 use native.Mathlib.Decide.{ℕ-discrete}
 use native.Mathlib.Omega.{arith}
 use lib.ListN.{length, drop, length-drop}
 use borrow.Author.Tests.{eq-eqb, ne-eqb}
-use Rattle.chars.specs.Class.{blank, between, front}
-use Rattle.reading.specs.declared.text.Verdict.the-variants.{Accepted}
 use Rattle.reading.specs.declared.text.PatternReading.{PatternReading}
-use Rattle.reading.specs.Reading.{longest, patternOf}
+use Rattle.reading.specs.Reading.{longest}
 use Rattle.version.specs.Refusals.{Row as PatternRow}
 use Rattle.version.proofs.Answers.{flag-cases, holds, fails}
 use Rattle.version.proofs.Covering.{some-row, accepted, refused}

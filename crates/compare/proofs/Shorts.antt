@@ -1,23 +1,23 @@
 -- Short versions compare as the versions that they are.
 -- Assumes nothing.
 use mathlib.Core.Path.{_≡_, refl, sym, ap, _∙_}
-use mathlib.Core.Bool.{Bool, true, false, not}
+use mathlib.Core.Bool.{false, not}
 use mathlib.Core.List.{List, [], _∷_}
 use Prim.Native.Nat.{ℕ, zero, suc, compare}
 use lib.ListN.{take, replicate}
 use borrow.Author.Tests.{not-false}
-use Rattle.order.specs.Ordering.{Ordering, also, flip, eq}
+use Rattle.order.specs.Ordering.{also, flip}
 use Rattle.order.specs.Compare.{padded}
 use Rattle.order.specs.Answer.{nameOf}
 use Rattle.order.specs.declared.Order.{Order}
 use Rattle.order.specs.declared.Order.the-variants.{Equal}
-use Rattle.order.proofs.Ordering.{also-assoc, also-eq}
+use Rattle.order.proofs.Ordering.{also-eq}
 use Rattle.order.proofs.Padded.{padded-laws}
 use Rattle.order.proofs.Numbers.{number-laws}
 use Rattle.reading.specs.declared.short.Short.{Short}
 use Rattle.reading.specs.declared.short.ShortReading.{ShortReading}
 use Rattle.reading.specs.Short.{Filled, FilledShort, shortOf, wholeVersion}
-use Rattle.reading.specs.Reading.{accepted, patternAs, versionOf}
+use Rattle.reading.specs.Reading.{versionOf}
 use Rattle.reading.specs.Value.{valueOf, listed}
 use Rattle.reading.proofs.ShortRead.{short-said}
 use Rattle.compare.specs.declared.text.Compared.{Compared}

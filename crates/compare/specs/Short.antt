@@ -1,6 +1,5 @@
 -- The order of short versions, which is the order of versions (`shorts-compare`).
 use Prim.Native.Nat.{compare}
-use Rattle.order.specs.Ordering.{also}
 use Rattle.order.specs.Compare.{Comparison, by, lex}
 use Rattle.reading.specs.declared.short.Short.{Short}
 use Rattle.compare.specs.Key.{keyOf}

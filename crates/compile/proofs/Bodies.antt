@@ -1,13 +1,13 @@
 -- The record of one end, as it is written.
 -- Assumes nothing.
-use mathlib.Core.Path.{_≡_, refl, sym, _∙_, ap}
+use mathlib.Core.Path.{_≡_, refl, _∙_, ap}
 use mathlib.Core.List.{List, [], _∷_, _++_, append-assoc}
 use Prim.Native.Nat.{ℕ, suc, _+_, _-_, _/_, _%_, _^_, _≤_, _<_}
 use native.Mathlib.Nat.{add-zero}
 use native.Mathlib.Omega.{arith}
 use lib.ListN.{length, set}
 use lib.Seq.{sets, set-comm}
-use Rattle.decimal.specs.Put.{farthest, Wrote, Put}
+use Rattle.decimal.specs.Put.{Wrote, Put}
 use Rattle.decimal.proofs.Puts.{nothing, then, retext, whole}
 use Rattle.normal.specs.Normal.{versionText}
 use Rattle.ends.specs.declared.end.Side.the-variants.{Bottom, Top, Before, After}

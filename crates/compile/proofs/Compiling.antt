@@ -11,7 +11,6 @@ use Rattle.answers.specs.declared.Written.the-variants.{Refused}
 use Rattle.answers.specs.Written.{Printed}
 use Rattle.ranges.specs.Range.{Range}
 use Rattle.ranges.specs.Map.{mapRange}
-use Rattle.clause.specs.declared.list.Checked.{Checked}
 use Rattle.clause.specs.declared.list.Checked.the-variants.{Count, Refused as NotRead}
 use Rattle.clause.specs.List.{Listing, refused, clauses, listOf, countFrom, checked}
 use Rattle.ends.specs.Number.{placeNumber}

@@ -1,13 +1,12 @@
 -- The fields of an end have the shape that a reader gives them, so that the text of the fields is the text of the end's place.
 -- Assumes nothing.
-use mathlib.Core.Path.{_≡_, refl, sym, _∙_, ap}
+use mathlib.Core.Path.{_≡_, refl, _∙_}
 use mathlib.Core.Bool.{Bool, true, false}
 use mathlib.Core.List.{List, []}
-use Prim.Native.Nat.{ℕ, zero, suc, _+_, _≤_, _<_, min}
+use Prim.Native.Nat.{ℕ, zero, suc, _+_, _≤_, min}
 use native.Mathlib.Omega.{arith}
 use lib.Dec.{eqb, ltb}
-use lib.ListN.{length, drop, set, getD, length-set}
-use Rattle.chars.specs.Pick.{pick}
+use lib.ListN.{length, drop, getD, length-set}
 use Rattle.chars.specs.Class.{blank, between, front}
 use Rattle.parts.specs.declared.fields.Version.{Version}
 use Rattle.parts.specs.declared.fields.Release.{Release}
@@ -34,7 +33,7 @@ use Rattle.clause.specs.List.{commaAfter, clauseAt, clauseIn}
 use Rattle.ends.specs.declared.end.Side.{Side}
 use Rattle.ends.specs.declared.end.Side.the-variants.{Bottom, Top, Before, After}
 use Rattle.ends.specs.declared.end.End.{End}
-use Rattle.ends.specs.End.{placeOf, endAt, topmost, nextEnd, firstOf, secondOf, firstEnd, secondEnd}
+use Rattle.ends.specs.End.{placeOf, endAt, nextEnd, firstOf, secondOf}
 use Rattle.ends.specs.Number.{endFrom, endNumber, placeNumber}
 use Rattle.table.specs.Text.{bodyText}
 use Rattle.compile.specs.Body.{sideText, endText}

@@ -1,6 +1,6 @@
 -- The ranges of a table, as they are written one by one.
 -- Assumes nothing.
-use mathlib.Core.Path.{_≡_, refl, sym, _∙_, ap, ap₂}
+use mathlib.Core.Path.{_≡_, refl, sym, _∙_, ap}
 use mathlib.Core.List.{List, [], _∷_, _++_, map, append-assoc, append-nil}
 use Prim.Native.Nat.{ℕ, suc, _+_, _^_, _≤_, _<_, min}
 use native.Mathlib.Numerals.{add-one}
@@ -18,7 +18,7 @@ use Rattle.ends.specs.Cut.{Place}
 use Rattle.ends.specs.End.{placeOf}
 use Rattle.ends.specs.Number.{endNumber, placeNumber}
 use Rattle.table.specs.Record.{twoBytes, recordText}
-use Rattle.table.specs.Text.{lowerKind, upperKind, bodyText, lowerText, upperText, rangesText, tableText}
+use Rattle.table.specs.Text.{lowerKind, upperKind, lowerText, upperText, rangesText, tableText}
 use Rattle.compile.specs.Body.{endText}
 use Rattle.fold.specs.Ranges.{paired}
 use Rattle.compile.specs.Said.{saidBy}

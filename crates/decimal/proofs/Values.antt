@@ -15,7 +15,6 @@ use Rattle.chars.specs.Class.{classOf, digit, between, front}
 use Rattle.chars.specs.Pick.{pick}
 use Rattle.chars.proofs.Classes.{run-stop, run-step}
 use Rattle.chars.proofs.Cases.{no-eq, yes-is}
-use Rattle.decimal.specs.declared.parse.Number.{Number}
 use Rattle.decimal.specs.declared.parse.Number.the-variants.{Value, TooBig}
 use Rattle.decimal.specs.declared.parse.Leading.{Leading}
 use Rattle.decimal.specs.declared.parse.Leading.the-variants.{Absent, Read, TooBig as LeadingTooBig}

@@ -6,17 +6,15 @@ use mathlib.Core.List.{List, [], _∷_, _++_, append-nil}
 use Prim.Native.Nat.{ℕ, suc, _+_, _-_, _≤_, _<_}
 use native.Mathlib.Decide.{decLt}
 use native.Mathlib.Omega.{arith}
-use lib.Dec.{ltb}
 use lib.ListN.{length, take, drop, length-take, length-append, drop-of-length-le}
-use lib.Seq.{take-nil, take-length, take-take, take-append-seam, length-take-le}
+use lib.Seq.{take-nil, take-length, take-take, take-append-seam}
 use borrow.Author.Tests.{lt-ltb, le-ltb}
 use Rattle.chars.specs.Pick.{pick}
 use Rattle.lines.specs.declared.window.Window.{Window}
-use Rattle.lines.specs.declared.window.Found.{Found}
 use Rattle.lines.specs.declared.window.Found.the-variants.{Line, More, End}
 use Rattle.lines.specs.declared.window.Next.{Next}
 use Rattle.lines.specs.Window.{held, lineLength, limit, told, untold, front, pastCut, textOf}
-use Rattle.lines.specs.Run.{linesOf, Shown, AllShown, Brought, Run}
+use Rattle.lines.specs.Run.{linesOf, Shown, AllShown, Run}
 use Rattle.lines.proofs.Fronts.{front-whole, front-cut, front-none}
 use Rattle.lines.proofs.Texts.{afterFeed, whole-line, feed-inside, feed-behind, open-line, feed-within, part-later}
 

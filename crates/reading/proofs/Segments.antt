@@ -8,7 +8,6 @@ use Rattle.chars.proofs.Cases.{yes-is, no-is}
 use Rattle.decimal.specs.declared.parse.Number.{Number}
 use Rattle.decimal.specs.declared.parse.Number.the-variants.{Value, TooBig}
 use Rattle.decimal.specs.Parse.{numberOf, digitsOf}
-use Rattle.parts.specs.declared.fields.Local.{Local}
 use Rattle.reading.specs.declared.segment.Segment.{Segment}
 use Rattle.reading.specs.declared.segment.Segment.the-variants.{Number as IsNumber, Text}
 use Rattle.reading.specs.declared.text.Reading.{Reading}

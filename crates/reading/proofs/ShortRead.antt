@@ -13,7 +13,6 @@ use Rattle.chars.specs.Pick.{pick}
 use Rattle.chars.specs.Class.{isLetter, isSeparator, isBlank, classOf, inRange, between, front}
 use Rattle.chars.specs.Case.{lowerOf, startsWith}
 use Rattle.decimal.specs.Parse.{leadingOf}
-use Rattle.parts.specs.declared.fields.Release.{Release}
 use Rattle.parts.specs.declared.fields.Pre.{Pre}
 use Rattle.parts.specs.declared.fields.Pre.the-variants.{Absent as NoPre}
 use Rattle.parts.specs.declared.fields.Part.{Part}

@@ -1,7 +1,7 @@
 -- The versions that are met most, by a short cut: no epoch, at most four release numbers, no label, no blanks. What is found here is what the
 -- rules read (`short-read`); what is not found may still be a version.
 use mathlib.Core.Path.{_≡_}
-use mathlib.Core.Bool.{Bool, true, false}
+use mathlib.Core.Bool.{true, false}
 use mathlib.Core.List.{List, _∷_}
 use Prim.Native.Nat.{ℕ, _≤_}
 use Prim.Native.Char.{code}

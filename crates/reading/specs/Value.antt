@@ -5,7 +5,6 @@ use lib.ListN.{take}
 use Rattle.chars.specs.Case.{lowered}
 use Rattle.parts.specs.declared.fields.Pre.{Pre}
 use Rattle.parts.specs.declared.fields.Part.{Part}
-use Rattle.parts.specs.declared.fields.Local.{Local}
 use Rattle.parts.specs.declared.fields.Version.{Version}
 use Rattle.reading.specs.declared.segment.Segment.{Segment}
 use Rattle.reading.specs.declared.segment.Segment.the-variants.{Number as IsNumber, Text as IsText}

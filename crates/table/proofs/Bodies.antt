@@ -17,7 +17,6 @@ use Rattle.answers.specs.Written.{answer, filled, Printed}
 use Rattle.chars.specs.Pick.{pick}
 use Rattle.parts.specs.declared.fields.Version.{Version}
 use Rattle.reading.specs.declared.text.Reading.{Reading}
-use Rattle.reading.specs.declared.text.Verdict.{Verdict}
 use Rattle.reading.specs.declared.text.Verdict.the-variants.{Accepted, Refused}
 use Rattle.reading.specs.Reading.{versionOf}
 use Rattle.reading.specs.Value.{valueOf, valueIn}
@@ -25,7 +24,6 @@ use Rattle.normal.specs.Normal.{versionText, normalText}
 use Rattle.roundtrip.proofs.Roundtrip.{normal-of-value, accepted-readable}
 use Rattle.roundtrip.proofs.Unlabelled.{unlabelled-length}
 use Rattle.ends.proofs.Sounds.{same-value, no-label}
-use Rattle.table.specs.declared.body.Body.{Body}
 use Rattle.table.specs.Body.{sameBytes, versionIn}
 
 -- an accepted text without a label: its normal text has at most 427 bytes

@@ -5,7 +5,6 @@ use Prim.Native.Nat.{ℕ, zero, suc, _+_, _-_, _≤_, _<_}
 use native.Mathlib.Omega.{arith}
 use borrow.Author.Tests.{ne-eqb}
 use Rattle.ends.specs.declared.end.Side.{Side}
-use Rattle.table.specs.declared.kind.Kind.{Kind}
 use Rattle.table.specs.declared.kind.Kind.the-variants.{Count, Lower, Upper, Unknown}
 use Rattle.table.specs.Kind.{kindOf, lowerSide, upperSide}
 

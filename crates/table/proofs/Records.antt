@@ -6,7 +6,6 @@ use Prim.Native.Nat.{ℕ, _+_, _-_, _≤_, _<_}
 use native.Mathlib.Omega.{arith}
 use lib.ListN.{length, List·getD-eq-default}
 use borrow.Author.Tests.{lt-ltb, le-ltb}
-use Rattle.table.specs.declared.record.RecordAt.{RecordAt}
 use Rattle.table.specs.declared.record.RecordAt.the-variants.{Missing, Found}
 use Rattle.table.specs.Record.{twoAt, recordAt}
 

@@ -2,7 +2,7 @@
 use mathlib.Core.List.{List, [], _∷_, _++_}
 use Prim.Native.Nat.{ℕ}
 use lib.ListN.{length}
-use Rattle.ranges.specs.Cut.{Cut, bot, top, before, after}
+use Rattle.ranges.specs.Cut.{bot, top, before, after}
 use Rattle.ranges.specs.Range.{Range}
 use Rattle.roundtrip.specs.Text.{valueText}
 use Rattle.ends.specs.Cut.{Place}

@@ -1,7 +1,6 @@
 -- `accepting::short_holds::begins_alike` meets its contract: one law for each way out.
 -- Assumes nothing.
 use Rattle.accepting.proofs.ShortHolding.{alike-none, differ-first, alike-one, differ-second, alike-two, differ-third, alike-three}
-use borrow.Author.Needs.{needs}
 use Rattle.accepting.proofs.short_holds.begins_alike.Statement.{statement}
 use Rattle.accepting.proofs.short_holds.begins_alike.Tie as tie
 

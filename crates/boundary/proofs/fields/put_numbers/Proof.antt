@@ -1,11 +1,10 @@
 -- `boundary::fields::put_numbers` meets its contract: the numbers to come, over what is written, give the whole.
 -- Assumes nothing.
-use mathlib.Core.Path.{_≡_, refl}
+use mathlib.Core.Path.{_≡_}
 use Prim.Native.Nat.{_+_, _-_, _≤_}
 use native.Mathlib.Nat.{add-zero}
 use lib.ListN.{length, drop, length-set}
-use lib.Seq.{sets, drop-length}
-use native.Mathlib.Omega.{arith}
+use lib.Seq.{sets}
 use borrow.Author.Needs.{needs}
 use Rattle.boundary.proofs.Rows.{number-next, numbers-done}
 use Rattle.boundary.proofs.fields.put_numbers.Statement.{statement}

@@ -1,6 +1,6 @@
 -- `boundary::fields::put_segments` meets its contract: the rows to come, over what is written, give the whole.
 -- Assumes nothing.
-use mathlib.Core.Path.{_≡_, refl}
+use mathlib.Core.Path.{_≡_}
 use Prim.Native.Nat.{_+_, _-_, _*_, _≤_}
 use native.Mathlib.Nat.{add-zero}
 use lib.ListN.{length}

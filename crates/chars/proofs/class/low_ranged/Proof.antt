@@ -1,7 +1,6 @@
 -- `chars::class::low_ranged` meets its contract.
 -- Assumes nothing.
 use native.Mathlib.Omega.{arith}
-use borrow.Author.Needs.{needs}
 use Rattle.chars.proofs.Cases.{cases}
 use Rattle.chars.proofs.Ranged.{low-ranged-as}
 use Rattle.chars.proofs.class.low_ranged.Statement.{statement}

@@ -1,6 +1,5 @@
 -- `clause::clause::read_pattern` meets its contract: one law for each way out.
 -- Assumes nothing.
-use mathlib.Core.Path.{refl}
 use Rattle.clause.proofs.Clauses.{pattern-refused, pattern-judged, place-fits}
 use borrow.Author.Needs.{needs}
 use Rattle.clause.proofs.clause.read_pattern.Statement.{statement}

@@ -1,6 +1,6 @@
 -- `clause::trim::trimmed_len` meets its contract: the first n bytes trimmed are all of them trimmed.
 -- Assumes nothing.
-use mathlib.Core.Path.{_≡_, refl}
+use mathlib.Core.Path.{_≡_}
 use Prim.Native.Nat.{_≤_}
 use native.Mathlib.Nat.{le-refl}
 use lib.ListN.{length, take}

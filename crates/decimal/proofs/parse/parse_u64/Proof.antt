@@ -1,7 +1,7 @@
 -- `decimal::parse::parse_u64` meets its contract: the value of the digits so far, with those to come, is the value of all.
 -- Assumes nothing.
 use mathlib.Core.Path.{_≡_, refl}
-use Prim.Native.Nat.{_+_, _*_, _-_, _^_, _<_, _≤_}
+use Prim.Native.Nat.{_-_, _^_, _<_}
 use borrow.Author.Needs.{needs}
 use lib.ListN.{length, drop}
 use Rattle.decimal.specs.Parse.{valueFrom}

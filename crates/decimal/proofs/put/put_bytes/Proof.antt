@@ -1,6 +1,6 @@
 -- `decimal::put::put_bytes` meets its contract: so far it wrote the first i bytes.
 -- Assumes nothing.
-use mathlib.Core.Path.{_≡_, sym}
+use mathlib.Core.Path.{sym}
 use Prim.Native.Nat.{_+_, _-_, _≤_}
 use native.Mathlib.Numerals.{add-one}
 use lib.ListN.{length, take}

@@ -1,7 +1,6 @@
 -- `normal::label::store_lower` meets its contract: so far it wrote the first i bytes in lower case.
 -- Assumes nothing.
-use mathlib.Core.Path.{_≡_}
-use Prim.Native.Nat.{_+_, _-_, _*_, _≤_}
+use Prim.Native.Nat.{_+_, _-_, _≤_}
 use lib.ListN.{length, take}
 use borrow.Author.Needs.{needs}
 use Rattle.chars.specs.Case.{lowered}

@@ -1,7 +1,7 @@
 -- `replay::say::put_hex` meets its contract: it is safe, and each turn puts one byte.
 -- Assumes nothing.
 use mathlib.Core.Path.{_≡_}
-use Prim.Native.Nat.{_-_, _≤_}
+use Prim.Native.Nat.{_-_}
 use lib.ListN.{length}
 use borrow.Author.Needs.{needs}
 use Rattle.replay.proofs.say.put_hex.Statement.{statement}
