@@ -81,15 +81,22 @@ fn each<T: Copy>(items: &[T], mut ours: impl FnMut(T), mut theirs: impl FnMut(T)
     )
 }
 
+/// The Rust's side where it is asked for a version alone, or for a list.
+fn reads(text: &str) {
+    black_box(&version(text));
+}
+
+fn prepares(list: &str) {
+    black_box(&specifiers(list));
+}
+
 fn read(texts: &Texts) -> Measured {
     each(
         &texts.texts(),
         |text| {
             black_box(&knappulf::read(text.as_bytes()).expect("accepted"));
         },
-        |text| {
-            black_box(&version(text));
-        },
+        reads,
     )
 }
 
@@ -128,9 +135,7 @@ fn word(texts: &Texts) -> Measured {
         |text| {
             black_box(knappulf::word(text.as_bytes()).expect("accepted"));
         },
-        |text| {
-            black_box(&version(text));
-        },
+        reads,
     )
 }
 
@@ -152,9 +157,7 @@ fn check(texts: &Texts) -> Measured {
         |list| {
             black_box(knappulf::check(list.as_bytes()).expect("accepted"));
         },
-        |list| {
-            black_box(&specifiers(list));
-        },
+        prepares,
     )
 }
 
@@ -166,9 +169,7 @@ fn compile(texts: &Texts) -> Measured {
         |list| {
             black_box(knappulf::compile(list.as_bytes(), &mut buffer).expect("accepted"));
         },
-        |list| {
-            black_box(&specifiers(list));
-        },
+        prepares,
     )
 }
 
