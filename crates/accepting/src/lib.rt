@@ -1,9 +1,9 @@
 // What a list of clauses accepts: each clause by itself.
 pub mod accept;
-pub mod holds;
-pub mod short;
-pub mod short_accept;
-pub mod short_holds;
+mod holds;
+mod short;
+mod short_accept;
+mod short_holds;
 
 use crate::accept::Accepts;
 use crate::accept::accept_version;

@@ -21,7 +21,7 @@ fn kind_number(kind: PreKind) -> u64
     }
 }
 
-pub fn pre_pair(pre: Pre) -> Pair
+pub(crate) fn pre_pair(pre: Pre) -> Pair
     ensures { λ r. ⌜ r ≡ prePair pre ⌝ }
 {
     match pre {
@@ -33,7 +33,7 @@ pub fn pre_pair(pre: Pre) -> Pair
     }
 }
 
-pub fn part_pair(part: Part) -> Pair
+pub(crate) fn part_pair(part: Part) -> Pair
     ensures { λ r. ⌜ r ≡ partPair part ⌝ }
 {
     match part {
@@ -42,7 +42,7 @@ pub fn part_pair(part: Part) -> Pair
     }
 }
 
-pub fn segment_pair(segment: Segment) -> Pair
+pub(crate) fn segment_pair(segment: Segment) -> Pair
     ensures { λ r. ⌜ r ≡ segmentPair segment ⌝ }
 {
     match segment {

@@ -11,7 +11,7 @@ use Rattle.lines.specs.declared.window.Found.the-variants.{Line, More, E
 use Rattle.lines.specs.Window.{front, pastCut}
 use Rattle.lines.specs.Run.{linesOf}
 
-abbrev window : ℕ → ℕ → Bool → Bool → Window
+abbrev pub window : ℕ → ℕ → Bool → Bool → Window
 window start end cut done = record { start = start; end = end; cut = cut; done = done }
 
 -- two lines and the beginning of a third

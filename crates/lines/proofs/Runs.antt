@@ -13,8 +13,10 @@ use Rattle.chars.specs.Pick.{pick}
 use Rattle.lines.specs.declared.window.Window.{Window}
 use Rattle.lines.specs.declared.window.Found.the-variants.{Line, More, End}
 use Rattle.lines.specs.declared.window.Next.{Next}
-use Rattle.lines.specs.Window.{held, lineLength, limit, told, untold, front, pastCut, textOf}
+use Rattle.lines.specs.Window.{unread, held, lineLength, limit, told, untold, front, pastCut, textOf}
 use Rattle.lines.specs.Run.{linesOf, Shown, AllShown, Run}
+use Rattle.chars.proofs.Parts.{part-none}
+use Rattle.lines.proofs.Anchors.{window}
 use Rattle.lines.proofs.Fronts.{front-whole, front-cut, front-none}
 use Rattle.lines.proofs.Texts.{afterFeed, whole-line, feed-inside, feed-behind, open-line, feed-within, part-later}
 
@@ -26,17 +28,11 @@ pending false text = text
 abbrev toTell : List ℕ → Window → List ℕ → List ℕ
 toTell buffer w coming = pending (w .cut) (held buffer w ++ coming)
 
-abbrev window : ℕ → ℕ → Bool → Bool → Window
-window start end cut done = record { start = start; end = end; cut = cut; done = done }
-
 -- dropping the rest of a cut line leaves what is to be told, and an open window behind it, or none
 record Past (buffer : List ℕ) (w : Window) (coming : List ℕ) (v : Window) : Type 0 where
   same : toTell buffer v coming ≡ toTell buffer w coming
   empty : v .cut ≡ true → held buffer v ≡ []
   done : v .done ≡ w .done
-
-nothing-held : (n : ℕ) (l : List ℕ) → take (n - n) l ≡ []
-nothing-held n l = let none : n - n ≡ 0 = omega arith in rw none
 
 module _ (buffer coming : List ℕ) (start end : ℕ) (done : Bool) where
   abbrev rest : List ℕ
@@ -58,8 +54,8 @@ module _ (buffer coming : List ℕ) (start end : ℕ) (done : Bool) where
             let behind : length rest ≤ lineLength rest = omega arith in
             rw (le-ltb (lineLength rest) (length rest) behind)
             (record {
-              same = rw (nothing-held end (drop end buffer)) (sym (feed-behind rest coming behind));
-              empty = λ e. nothing-held end (drop end buffer);
+              same = rw (← part-none buffer end end (omega arith)) (sym (feed-behind rest coming behind));
+              empty = λ e. sym (part-none buffer end end (omega arith));
               done = refl;
             })
       ]
@@ -227,6 +223,6 @@ runs {longest = longest} (Run.ends buffer w coming x e) room over =
     a-line {start = start} e = let impossible : start ≡ suc start = cc in omega arith
 
 -- from an empty window on: whatever the reads bring at a time, the lines that are told are those of the input, one for one
-pub whole-run : {longest : ℕ} {buffer input : List ℕ} {lines : List (List ℕ)} → Run longest buffer (window 0 0 false false) input lines →
+pub whole-run : {longest : ℕ} {buffer input : List ℕ} {lines : List (List ℕ)} → Run longest buffer unread input lines →
     longest < length buffer → AllShown longest (linesOf input) lines
 whole-run run room = runs run room (λ e. absurd (true≢false (sym e)))

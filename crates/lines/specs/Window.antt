@@ -15,6 +15,10 @@ use Rattle.lines.specs.declared.window.Next.{Next}
 abbrev pub lineFeed : ℕ
 lineFeed = 10
 
+-- nothing was read yet
+abbrev pub unread : Window
+unread = record { start = 0; end = 0; cut = false; done = false }
+
 -- what was read and not yet told
 abbrev pub held : List ℕ → Window → List ℕ
 held buffer w = take (w .end - w .start) (drop (w .start) buffer)

@@ -2,9 +2,8 @@
 use bytes::scan::find;
 use chars::place::part;
 ghost use mathlib.Core.Path.{_≡_};
-ghost use mathlib.Core.Bool.{false};
 ghost use Prim.Native.Nat.{_+_, _^_, _<_};
-ghost use Rattle.lines.specs.Window.{LineLength, limit, told, untold, front, pastCut, textOf};
+ghost use Rattle.lines.specs.Window.{unread, LineLength, limit, told, untold, front, pastCut, textOf};
 
 pub struct Window {
     pub start: usize,
@@ -29,7 +28,7 @@ pub struct Next {
 
 // Nothing was read yet.
 pub fn empty() -> Window
-    ensures { λ r. ⌜ r ≡ record { start = 0; end = 0; cut = false; done = false } ⌝ }
+    ensures { λ r. ⌜ r ≡ unread ⌝ }
 {
     Window {
         start: 0,
