@@ -15,7 +15,7 @@ use Rattle.parts.specs.Suffix.{numberOrZero, preAt, spelledPost, postAt, devAt,
 use Rattle.reading.specs.Label.{wordEnd, segmentsFrom, labelAt}
 use Rattle.reading.specs.Reading.{starred, afterRelease, afterSuffix, patternAs, versionOf}
 use Rattle.reading.specs.Value.{valueOf}
-use Rattle.compare.specs.Versions.{compareRelease, compareKey, comparePublic}
+use Rattle.keys.specs.Versions.{compareRelease, compareKey, comparePublic}
 use Rattle.prefixes.specs.Prefix.{prefixMatches}
 use Rattle.accepting.specs.declared.accept.Accepts.{Accepts}
 use Rattle.accepting.specs.declared.accept.Accepts.the-variants.{Yes, No, List as OfList, Version as OfVersion}

@@ -9,7 +9,7 @@ use Rattle.order.specs.Answer.{nameOf}
 use Rattle.order.specs.declared.Order.{Order}
 use Rattle.parts.specs.declared.fields.Version.{Version}
 use Rattle.reading.specs.Value.{Value, valueOf}
-use Rattle.compare.specs.Versions.{compareRelease, comparePublic}
+use Rattle.keys.specs.Versions.{compareRelease, comparePublic}
 use Rattle.prefixes.specs.Prefix.{prefixMatches, shorter}
 use Rattle.clause.specs.declared.operator.Operator.{Operator}
 use Rattle.clause.specs.declared.operator.Operator.the-variants.{Equal, NotEqual, Compatible, AtMost, AtLeast, Below, Above}

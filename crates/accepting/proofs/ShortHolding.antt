@@ -14,7 +14,7 @@ use Rattle.reading.specs.declared.short.Short.{Short}
 use Rattle.reading.specs.Short.{Filled, FilledShort}
 use Rattle.reading.specs.Value.{valueOf}
 use Rattle.compare.specs.Short.{compareShorts}
-use Rattle.compare.specs.Versions.{comparePublic}
+use Rattle.keys.specs.Versions.{comparePublic}
 use Rattle.prefixes.specs.Prefix.{begins, prefixMatches, shorter}
 use Rattle.compare.proofs.Shorts.{shorts-compare}
 use Rattle.accepting.specs.Short.{shortValue}

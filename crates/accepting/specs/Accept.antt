@@ -10,7 +10,7 @@ use Rattle.reading.specs.declared.text.Verdict.{Verdict}
 use Rattle.reading.specs.declared.text.Verdict.the-variants.{Accepted, Refused}
 use Rattle.reading.specs.Reading.{versionOf}
 use Rattle.reading.specs.Value.{Value, valueOf, valueIn}
-use Rattle.compare.specs.Versions.{comparePublic}
+use Rattle.keys.specs.Versions.{comparePublic}
 use Rattle.prefixes.specs.Prefix.{prefixMatches, shorter}
 use Rattle.clause.specs.declared.operator.Operator.{Operator}
 use Rattle.clause.specs.declared.operator.Operator.the-variants.{Equal, NotEqual, Compatible, AtMost, AtLeast, Below, Above}

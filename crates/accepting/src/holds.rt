@@ -11,7 +11,7 @@ ghost use mathlib.Core.Bool.{_&&_};
 ghost use mathlib.Core.List.{[]};
 ghost use Rattle.order.specs.Ordering.{isGe};
 ghost use Rattle.reading.specs.Value.{valueOf};
-ghost use Rattle.compare.specs.Versions.{comparePublic};
+ghost use Rattle.keys.specs.Versions.{comparePublic};
 ghost use Rattle.prefixes.specs.Prefix.{prefixMatches, shorter};
 ghost use Rattle.accepting.specs.Accept.{saysAtMost, saysSame, saysAtLeast, equals, clauseAccepts};
 

@@ -11,7 +11,7 @@ ghost use mathlib.Core.Bool.{false, _&&_};
 ghost use Rattle.order.specs.Ordering.{isGe};
 ghost use Rattle.order.specs.Answer.{nameOf};
 ghost use Rattle.reading.specs.Short.{FilledShort};
-ghost use Rattle.compare.specs.Versions.{comparePublic};
+ghost use Rattle.keys.specs.Versions.{comparePublic};
 ghost use Rattle.prefixes.specs.Prefix.{prefixMatches, shorter};
 ghost use Rattle.accepting.specs.Accept.{holds};
 ghost use Rattle.accepting.specs.Short.{shortValue};

@@ -6,9 +6,9 @@ use Rattle.reading.specs.Reading.{starred}
 use Rattle.reading.specs.Value.{listed, labelFrom, valueOf}
 use Rattle.roundtrip.specs.Text.{valueText}
 use Rattle.roundtrip.proofs.Extremes.{computed}
-use Rattle.compare.specs.Versions.{compareRelease, compareKey, comparePublic, compareLabel, compareValues}
+use Rattle.keys.specs.Versions.{compareRelease, compareKey, comparePublic, compareLabel, compareValues}
 use Rattle.prefixes.specs.Prefix.{prefixMatches, nextPrefix}
-use Rattle.compare.specs.Compared.{compared}
+use Rattle.keys.specs.Compared.{compared}
 use Rattle.word.specs.Small.{smallRelease, isSmall, releaseWord, wordOf}
 use Rattle.word.specs.Worded.{worded, wordAnswer}
 use Rattle.clause.specs.Operator.{orderOf, operatorOf}

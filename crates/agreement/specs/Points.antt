@@ -8,9 +8,9 @@ use Rattle.chars.specs.Text.{ascii}
 use Rattle.reading.specs.declared.text.Verdict.the-variants.{Accepted, Refused}
 use Rattle.reading.specs.Reading.{patternOf, versionOf}
 use Rattle.normal.specs.Normal.{normalText}
-use Rattle.compare.specs.declared.text.Compared.{Compared}
-use Rattle.compare.specs.declared.text.Compared.the-variants.{Less, Equal}
-use Rattle.compare.specs.Compared.{compared}
+use Rattle.keys.specs.declared.compared.Compared.{Compared}
+use Rattle.keys.specs.declared.compared.Compared.the-variants.{Less, Equal}
+use Rattle.keys.specs.Compared.{compared}
 use Rattle.word.specs.declared.packed.Worded.the-variants.{Word}
 use Rattle.word.specs.Worded.{wordIs, wordAnswer}
 use Rattle.accepting.specs.declared.accept.Accepts.{Accepts}

@@ -8,7 +8,7 @@ use Rattle.parts.specs.declared.fields.Pre.the-variants.{Absent as NoPre, Is as
 use Rattle.parts.specs.declared.fields.Part.{Part}
 use Rattle.parts.specs.declared.fields.Part.the-variants.{Absent as NoPart, Is as IsPart}
 use Rattle.reading.specs.Value.{Value}
-use Rattle.compare.specs.Key.{kindOf}
+use Rattle.keys.specs.Key.{kindOf}
 use Rattle.word.specs.Small.{wordOf}
 
 kind-some : (pre : Pre) (post dev : Part) → 1 ≤ kindOf pre post dev

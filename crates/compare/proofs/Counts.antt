@@ -14,7 +14,7 @@ use Rattle.order.specs.declared.Order.{Order}
 use Rattle.order.specs.declared.Order.the-variants.{Equal}
 use Rattle.parts.specs.declared.fields.Version.{Version}
 use Rattle.reading.specs.Value.{valueOf}
-use Rattle.compare.specs.Versions.{compareRelease}
+use Rattle.keys.specs.Versions.{compareRelease}
 use Rattle.compare.proofs.Steps.{undecided}
 
 take-min : (n : ℕ) (l : List ℕ) → take (min n (length l)) l ≡ take n l

@@ -17,7 +17,7 @@ use Rattle.reading.specs.declared.segment.Segment.{Segment}
 use Rattle.reading.specs.declared.segment.Segment.the-variants.{Number, Text}
 use Rattle.reading.specs.Segment.{segmentOf, segmentBytes}
 use Rattle.reading.specs.Value.{Label, labelFrom, valueOf}
-use Rattle.compare.specs.Versions.{compareLabel}
+use Rattle.keys.specs.Versions.{compareLabel}
 use Rattle.compare.proofs.Steps.{Differs, decided, same}
 use Rattle.compare.proofs.Places.{onFrom, at-start, at-place, at-end}
 

@@ -1,5 +1,3 @@
-pub mod Anchors
-pub mod Orders
 pub mod Steps
 pub mod Counts
 pub mod Places

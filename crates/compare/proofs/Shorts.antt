@@ -20,14 +20,14 @@ use Rattle.reading.specs.Short.{Filled, FilledShort, shortOf, wholeVersion}
 use Rattle.reading.specs.Reading.{versionOf}
 use Rattle.reading.specs.Value.{valueOf, listed}
 use Rattle.reading.proofs.ShortRead.{short-said}
-use Rattle.compare.specs.declared.text.Compared.{Compared}
-use Rattle.compare.specs.Versions.{compareRelease, compareKey, comparePublic, compareValues}
-use Rattle.compare.specs.declared.key.Key.{Key}
-use Rattle.compare.specs.Key.{keyOf}
+use Rattle.keys.specs.declared.compared.Compared.{Compared}
+use Rattle.keys.specs.Versions.{compareRelease, compareKey, comparePublic, compareValues}
+use Rattle.keys.specs.declared.key.Key.{Key}
+use Rattle.keys.specs.Key.{keyOf}
 use Rattle.compare.specs.Short.{compareNumbers, compareShorts}
-use Rattle.compare.specs.Compared.{answered, compared}
+use Rattle.keys.specs.Compared.{answered, compared}
 use Rattle.compare.proofs.Steps.{undecided}
-use Rattle.compare.proofs.Orders.{label-blind}
+use Rattle.keys.proofs.Orders.{label-blind}
 
 -- zeros at a release's end make no difference
 zeros : (k : ℕ) (x : List ℕ) → padded compare 0 (replicate k 0) x ≡ padded compare 0 [] x

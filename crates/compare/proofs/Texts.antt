@@ -12,13 +12,13 @@ use Rattle.reading.specs.declared.text.Reading.{Reading}
 use Rattle.reading.specs.declared.text.Verdict.the-variants.{Accepted, Refused}
 use Rattle.reading.specs.Reading.{versionOf}
 use Rattle.reading.specs.Value.{valueOf}
-use Rattle.compare.specs.declared.key.Key.{Key}
-use Rattle.compare.specs.declared.text.Compared.{Compared}
-use Rattle.compare.specs.declared.text.Compared.the-variants.{First, Second}
-use Rattle.compare.specs.Key.{keyOf}
-use Rattle.compare.specs.Versions.{compareRelease, compareKey, comparePublic, compareValues}
-use Rattle.compare.specs.Compared.{answered, compared}
-use Rattle.compare.proofs.Orders.{label-blind}
+use Rattle.keys.specs.declared.key.Key.{Key}
+use Rattle.keys.specs.declared.compared.Compared.{Compared}
+use Rattle.keys.specs.declared.compared.Compared.the-variants.{First, Second}
+use Rattle.keys.specs.Key.{keyOf}
+use Rattle.keys.specs.Versions.{compareRelease, compareKey, comparePublic, compareValues}
+use Rattle.keys.specs.Compared.{answered, compared}
+use Rattle.keys.proofs.Orders.{label-blind}
 use Rattle.compare.proofs.Steps.{Differs, decided, undecided}
 use Rattle.compare.proofs.Labels.{labels}
 

@@ -1,4 +1,1 @@
-pub mod Key
-pub mod Versions
 pub mod Short
-pub mod Compared

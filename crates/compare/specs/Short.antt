@@ -2,8 +2,8 @@
 use Prim.Native.Nat.{compare}
 use Rattle.order.specs.Compare.{Comparison, by, lex}
 use Rattle.reading.specs.declared.short.Short.{Short}
-use Rattle.compare.specs.Key.{keyOf}
-use Rattle.compare.specs.Versions.{compareKey}
+use Rattle.keys.specs.Key.{keyOf}
+use Rattle.keys.specs.Versions.{compareKey}
 
 -- number by number
 unfoldable pub compareNumbers : Comparison Short

@@ -1,5 +1,6 @@
 // The key of a version, and the order of keys.
 use chars::spelling::PreKind;
+use keys::key::Key;
 use order::Order;
 use order::compare_number;
 use parts::fields::Part;
@@ -9,19 +10,11 @@ ghost use mathlib.Core.Path.{_≡_};
 ghost use Prim.Native.Nat.{compare};
 ghost use Rattle.order.specs.Compare.{option};
 ghost use Rattle.order.specs.Answer.{nameOf};
-ghost use Rattle.compare.specs.Key.{preKind, kindOf, preNumber, postOption, devNumber, keyOf};
-ghost use Rattle.compare.specs.Versions.{compareKey};
+ghost use Rattle.keys.specs.Key.{preKind, kindOf, preNumber, postOption, devNumber, keyOf};
+ghost use Rattle.keys.specs.Versions.{compareKey};
 
 // The largest number that a version can hold.
 pub const LARGEST: u64 = 18446744073709551615;
-
-// What decides between versions of one release, in this order.
-pub struct Key {
-    pub kind: u64,
-    pub pre: u64,
-    pub post: Part,
-    pub dev: u64,
-}
 
 fn pre_kind(kind: PreKind) -> u64
     ensures { λ r. ⌜ r ≡ preKind kind ⌝ }

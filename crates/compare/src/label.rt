@@ -13,7 +13,7 @@ ghost use Rattle.chars.specs.Case.{lowered};
 ghost use Rattle.order.specs.Compare.{list};
 ghost use Rattle.order.specs.Answer.{nameOf};
 ghost use Rattle.reading.specs.Value.{labelFrom, valueOf};
-ghost use Rattle.compare.specs.Versions.{compareLabel};
+ghost use Rattle.keys.specs.Versions.{compareLabel};
 
 // Two texts in lower case, byte by byte, a proper beginning first.
 fn compare_lowered(a: &[u8], b: &[u8]) -> Order

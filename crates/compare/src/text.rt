@@ -1,22 +1,13 @@
 // Comparing the versions that two texts say.
 use crate::short::compare_shorts;
 use crate::version::compare_versions;
-use answers::Refusal;
+use keys::compared::Compared;
 use order::Order;
 use reading::short::read_short;
 use reading::text::Verdict;
 use reading::text::read_version;
 ghost use mathlib.Core.Path.{_≡_};
-ghost use Rattle.compare.specs.Compared.{answered, compared};
-
-// How the first version compares with the second, or which text was refused.
-pub enum Compared {
-    Less,
-    Equal,
-    Greater,
-    First(Refusal),
-    Second(Refusal),
-}
+ghost use Rattle.keys.specs.Compared.{answered, compared};
 
 fn answer(order: Order) -> Compared
     ensures { λ r. ⌜ r ≡ answered order ⌝ }

@@ -11,7 +11,7 @@ ghost use mathlib.Core.Path.{_≡_};
 ghost use mathlib.Core.List.{[]};
 ghost use Rattle.order.specs.Answer.{nameOf};
 ghost use Rattle.reading.specs.Value.{valueOf};
-ghost use Rattle.compare.specs.Versions.{compareRelease, comparePublic, compareValues};
+ghost use Rattle.keys.specs.Versions.{compareRelease, comparePublic, compareValues};
 
 // The epochs, then the releases, the shorter continued with zeros.
 fn compare_release(v: Version, w: Version) -> Order

@@ -20,7 +20,7 @@ use Rattle.roundtrip.proofs.ReadPlaces.{by-pick}
 use Rattle.roundtrip.proofs.Read.{Shaped, pattern-shape}
 use Rattle.roundtrip.proofs.Texts.{text-of-value}
 use Rattle.prefixes.specs.declared.next.Next.{Next}
-use Rattle.compare.specs.Key.{largest}
+use Rattle.keys.specs.Key.{largest}
 use Rattle.prefixes.specs.Next.{next, devZeroFields, raisedAt, nextEpoch, nextFields}
 use Rattle.clause.specs.declared.operator.Operator.{Operator}
 use Rattle.clause.specs.declared.operator.Operator.the-variants.{Equal, NotEqual, Compatible, AtMost, AtLeast, Below, Above}

@@ -12,8 +12,8 @@ use Rattle.parts.specs.declared.fields.Part.the-variants.{Absent as NoPart}
 use Rattle.parts.specs.declared.fields.Version.{Version}
 use Rattle.parts.specs.Fields.{noLocal}
 use Rattle.reading.specs.Value.{Value, listed, valueOf}
-use Rattle.compare.specs.Key.{largest}
-use Rattle.compare.specs.Versions.{compareRelease, compareKey, comparePublic}
+use Rattle.keys.specs.Key.{largest}
+use Rattle.keys.specs.Versions.{compareRelease, compareKey, comparePublic}
 use Rattle.prefixes.specs.Next.{nextEpoch, nextFields}
 use Rattle.prefixes.specs.Prefix.{nextPrefix, devZero}
 use Rattle.clause.specs.declared.operator.Operator.{Operator}

@@ -22,9 +22,9 @@ use Rattle.ranges.proofs.Plain.{
   otherThan-proper,
 }
 use Rattle.reading.specs.Value.{Value}
-use Rattle.compare.specs.Versions.{comparePublic}
+use Rattle.keys.specs.Versions.{comparePublic}
 use Rattle.prefixes.specs.Prefix.{prefixMatches, shorter, prefixStart, prefixEnd, endsAbove, Held}
-use Rattle.compare.proofs.Orders.{public-laws}
+use Rattle.keys.proofs.Orders.{public-laws}
 use Rattle.prefixes.proofs.Matches.{prefix-law, prefix-proper, prefix-starts}
 use Rattle.clause.specs.declared.operator.Operator.{Operator}
 use Rattle.clause.specs.declared.operator.Operator.the-variants.{Equal, NotEqual, Compatible, AtMost, AtLeast, Below, Above}

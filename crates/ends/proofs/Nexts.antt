@@ -16,7 +16,7 @@ use Rattle.parts.specs.declared.fields.Version.{Version}
 use Rattle.parts.specs.Fields.{onlyNumber}
 use Rattle.reading.specs.Value.{Value, listed, valueOf}
 use Rattle.prefixes.specs.declared.next.Next.{Next}
-use Rattle.compare.specs.Key.{largest}
+use Rattle.keys.specs.Key.{largest}
 use Rattle.prefixes.specs.Next.{devZeroFields, startFields, raisedAt, next, noNext, nextEpoch, nextFields}
 use Rattle.prefixes.specs.Prefix.{cutTo, nextRelease, raised, carried, nextPrefix, devZero, zeroed, prefixStart, prefixEnd}
 

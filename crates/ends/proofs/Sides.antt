@@ -17,7 +17,7 @@ use Rattle.order.proofs.Numbers.{compare-means, compare-is}
 use Rattle.ranges.specs.Cut.{bot, top, before, after, level, value, side}
 use Rattle.parts.specs.declared.fields.Version.{Version}
 use Rattle.reading.specs.Value.{valueOf}
-use Rattle.compare.specs.Versions.{comparePublic}
+use Rattle.keys.specs.Versions.{comparePublic}
 use Rattle.ends.specs.declared.end.Side.{Side}
 use Rattle.ends.specs.declared.end.Side.the-variants.{Bottom, Top, Before, After}
 use Rattle.ends.specs.declared.end.End.{End}

@@ -19,9 +19,9 @@ use Rattle.ranges.proofs.Count.{table-length}
 use Rattle.ranges.proofs.Table.{is-table, one-table}
 use Rattle.ranges.proofs.Longest.{table-longest}
 use Rattle.reading.specs.Value.{Value}
-use Rattle.compare.specs.Versions.{comparePublic}
+use Rattle.keys.specs.Versions.{comparePublic}
 use Rattle.prefixes.specs.Prefix.{Held}
-use Rattle.compare.proofs.Orders.{public-laws}
+use Rattle.keys.proofs.Orders.{public-laws}
 use Rattle.roundtrip.proofs.ReadPlaces.{by-pick}
 use Rattle.clause.specs.declared.operator.Operator.{Operator}
 use Rattle.clause.specs.declared.operator.Operator.the-variants.{Equal, NotEqual, Compatible, AtMost, AtLeast, Below, Above}

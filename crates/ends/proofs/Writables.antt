@@ -14,7 +14,7 @@ use Rattle.order.proofs.Elements.{all-take}
 use Rattle.ranges.specs.Cut.{bot, top, before, after}
 use Rattle.ranges.specs.Shape.{lowerEnd, upperEnd}
 use Rattle.reading.specs.Value.{Value}
-use Rattle.compare.specs.Key.{largest}
+use Rattle.keys.specs.Key.{largest}
 use Rattle.prefixes.specs.Prefix.{shorter, raised, nextRelease, carried, nextPrefix, devZero, zeroed, prefixStart}
 use Rattle.roundtrip.specs.Readable.{Fits}
 use Rattle.roundtrip.proofs.ReadPlaces.{by-pick}

@@ -2,7 +2,7 @@
 use mathlib.Core.Bool.{Bool}
 use Rattle.ranges.specs.Cut.{Cut, leCut}
 use Rattle.reading.specs.Value.{Value}
-use Rattle.compare.specs.Versions.{comparePublic}
+use Rattle.keys.specs.Versions.{comparePublic}
 
 abbrev pub Place : Type 0
 Place = Cut Value

@@ -16,7 +16,7 @@ use Rattle.parts.specs.Suffix.{numberOrZero, preAt, spelledPost, postAt, devAt,
 use Rattle.reading.specs.Label.{wordEnd, segmentsFrom, labelAt}
 use Rattle.reading.specs.Reading.{starred, afterRelease, afterSuffix, patternAs}
 use Rattle.reading.specs.Value.{valueOf}
-use Rattle.compare.specs.Versions.{compareRelease, compareKey, comparePublic}
+use Rattle.keys.specs.Versions.{compareRelease, compareKey, comparePublic}
 use Rattle.prefixes.specs.Next.{nextEpoch, nextFields}
 use Rattle.clause.specs.Operator.{orderOf, operatorOf}
 use Rattle.clause.specs.Trim.{trimmedLength, beforeComma}

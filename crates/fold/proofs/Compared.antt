@@ -16,9 +16,9 @@ use Rattle.ranges.specs.Cut.{bot, top, before, after, compareCuts}
 use Rattle.parts.specs.declared.fields.Part.{Part}
 use Rattle.parts.specs.declared.fields.Part.the-variants.{Absent as NoPart, Is as IsPart}
 use Rattle.reading.specs.Value.{Value}
-use Rattle.compare.specs.declared.key.Key.{Key}
-use Rattle.compare.specs.Key.{postOption}
-use Rattle.compare.specs.Versions.{compareRelease, compareKey, comparePublic, key}
+use Rattle.keys.specs.declared.key.Key.{Key}
+use Rattle.keys.specs.Key.{postOption}
+use Rattle.keys.specs.Versions.{compareRelease, compareKey, comparePublic, key}
 use Rattle.ends.specs.Cut.{Place, lePlace}
 use Rattle.fold.specs.Row.{postMark, postNumber, keyNumbers, sixteen, versionRow, keyRow, Short}
 

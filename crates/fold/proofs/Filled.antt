@@ -11,8 +11,8 @@ use lib.Seq.{paste, paste-suc, length-take-le, drop-append-le}
 use borrow.Author.Needs.{length-unmapped}
 use Rattle.parts.specs.declared.fields.Version.{Version}
 use Rattle.reading.specs.Value.{valueOf}
-use Rattle.compare.specs.declared.key.Key.{Key}
-use Rattle.compare.specs.Key.{keyOf}
+use Rattle.keys.specs.declared.key.Key.{Key}
+use Rattle.keys.specs.Key.{keyOf}
 use Rattle.compare.proofs.Counts.{counted}
 use Rattle.ends.specs.declared.end.Side.the-variants.{Bottom, Top, Before, After}
 use Rattle.ends.specs.declared.end.End.{End}

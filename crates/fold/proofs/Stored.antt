@@ -11,7 +11,7 @@ use lib.Seq.{paste, take-paste, length-paste, take-all, take-at, drop-at}
 use Rattle.ranges.specs.Cut.{bot, top, before, after}
 use Rattle.ends.specs.Cut.{Place, lePlace}
 use Rattle.fold.specs.Row.{sixteen, keyNumbers, versionRow, keyRow, Short, rowsTo, rowAt, leRow, RowOf, Rows, EndsPut}
-use Rattle.compare.specs.Versions.{key}
+use Rattle.keys.specs.Versions.{key}
 use Rattle.reading.specs.Value.{Value}
 use Rattle.fold.proofs.Compared.{sixteen-long, rows-compare}
 

@@ -11,8 +11,8 @@ use Rattle.ranges.specs.Cut.{bot, top, before, after}
 use Rattle.parts.specs.declared.fields.Part.{Part}
 use Rattle.parts.specs.declared.fields.Part.the-variants.{Absent as NoPart, Is as IsPart}
 use Rattle.reading.specs.Value.{Value}
-use Rattle.compare.specs.declared.key.Key.{Key}
-use Rattle.compare.specs.Versions.{key}
+use Rattle.keys.specs.declared.key.Key.{Key}
+use Rattle.keys.specs.Versions.{key}
 use Rattle.ends.specs.Cut.{Place}
 
 -- a missing post is below any post

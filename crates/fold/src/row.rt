@@ -1,9 +1,9 @@
 // The keys of ends, computed once: an end's row of numbers, and the order of ends by their rows.
-use compare::key::Key;
 use compare::key::key_of;
 use compare::lengths::smaller;
 use ends::end::End;
 use ends::end::Side;
+use keys::key::Key;
 use parts::fields::Part;
 use parts::fields::Release;
 use parts::fields::Version;

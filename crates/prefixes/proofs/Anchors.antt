@@ -10,7 +10,7 @@ use Rattle.parts.specs.declared.fields.Release.{Release}
 use Rattle.parts.specs.declared.fields.Pre.the-variants.{Absent as NoPre}
 use Rattle.parts.specs.declared.fields.Part.the-variants.{Absent as NoPart}
 use Rattle.reading.specs.Value.{Value}
-use Rattle.compare.specs.Key.{largest}
+use Rattle.keys.specs.Key.{largest}
 use Rattle.prefixes.specs.Prefix.{prefixMatches, nextPrefix}
 use Rattle.prefixes.specs.Next.{devZeroFields, next, noNext, nextEpoch, nextFields}
 

@@ -43,7 +43,7 @@ use Rattle.reading.specs.Reading.{
   versionOf,
 }
 use Rattle.reading.specs.Value.{valueOf}
-use Rattle.compare.specs.Key.{largest}
+use Rattle.keys.specs.Key.{largest}
 use Rattle.prefixes.specs.Prefix.{Fit, Held}
 
 fit-set : (l : List ℕ) (i n : ℕ) → n ≤ largest → Fit l → Fit (set l i n)

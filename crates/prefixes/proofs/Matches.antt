@@ -17,8 +17,8 @@ use Rattle.parts.specs.declared.fields.Pre.the-variants.{Absent as NoPre, Is as
 use Rattle.parts.specs.declared.fields.Part.{Part}
 use Rattle.parts.specs.declared.fields.Part.the-variants.{Absent as NoPart, Is as IsPart}
 use Rattle.reading.specs.Value.{Value}
-use Rattle.compare.specs.Key.{largest, kindOf, preNumber, postOption, devNumber}
-use Rattle.compare.specs.Versions.{compareRelease, compareKey, key, comparePublic}
+use Rattle.keys.specs.Key.{largest, kindOf, preNumber, postOption, devNumber}
+use Rattle.keys.specs.Versions.{compareRelease, compareKey, key, comparePublic}
 use Rattle.prefixes.specs.Prefix.{
   prefixMatches,
   cutTo,

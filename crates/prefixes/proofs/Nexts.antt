@@ -12,7 +12,7 @@ use Rattle.parts.specs.declared.fields.Release.{Release}
 use Rattle.parts.specs.declared.fields.Version.{Version}
 use Rattle.parts.specs.Fields.{onlyNumber, noVersion}
 use Rattle.prefixes.specs.declared.next.Next.{Next}
-use Rattle.compare.specs.Key.{largest}
+use Rattle.keys.specs.Key.{largest}
 use Rattle.prefixes.specs.Next.{devZeroFields, endingIn, next, nextEpoch, nextFields}
 
 -- no number is left

@@ -15,7 +15,7 @@ use Rattle.order.specs.Compare.{padded, headOr}
 use Rattle.order.proofs.Ordering.{also-at-most}
 use Rattle.order.proofs.Numbers.{number-laws, compare-means, compare-is}
 use Rattle.order.proofs.Padded.{padded-step}
-use Rattle.compare.specs.Key.{largest}
+use Rattle.keys.specs.Key.{largest}
 use Rattle.prefixes.specs.Prefix.{begins, raised, nextRelease, Fit}
 
 -- the list q, where there is one, is above l

@@ -10,7 +10,7 @@ use Rattle.parts.specs.declared.fields.Part.the-variants.{Absent as NoPart, Is 
 use Rattle.parts.specs.declared.fields.Version.{Version}
 use Rattle.parts.specs.Fields.{noLocal, onlyNumber, noVersion}
 use Rattle.prefixes.specs.declared.next.Next.{Next}
-use Rattle.compare.specs.Key.{largest}
+use Rattle.keys.specs.Key.{largest}
 
 -- an epoch and a release with `.dev0`
 abbrev pub devZeroFields : ℕ → Release → Version

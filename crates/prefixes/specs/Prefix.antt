@@ -12,8 +12,8 @@ use Rattle.order.specs.Compare.{headOr}
 use Rattle.parts.specs.declared.fields.Pre.the-variants.{Absent as NoPre}
 use Rattle.parts.specs.declared.fields.Part.the-variants.{Absent as NoPart, Is as IsPart}
 use Rattle.reading.specs.Value.{Value}
-use Rattle.compare.specs.Key.{largest}
-use Rattle.compare.specs.Versions.{comparePublic}
+use Rattle.keys.specs.Key.{largest}
+use Rattle.keys.specs.Versions.{comparePublic}
 
 -- at each position of the prefix the number, 0 where there is none, equals the prefix's
 abbrev pub begins : List ℕ → List ℕ → Bool

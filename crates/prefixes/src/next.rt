@@ -8,7 +8,7 @@ use parts::fields::Release;
 use parts::fields::Version;
 ghost use mathlib.Core.Path.{_≡_};
 ghost use Prim.Native.Nat.{_+_, _<_, min};
-ghost use Rattle.compare.specs.Key.{largest};
+ghost use Rattle.keys.specs.Key.{largest};
 ghost use Rattle.prefixes.specs.Next.{devZeroFields, startFields, endingIn, nextEpoch, nextFields};
 
 // The version before which a match ends. Where there is no end, the version is the blank one.

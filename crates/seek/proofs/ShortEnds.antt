@@ -19,9 +19,9 @@ use Rattle.ranges.specs.Range.{within}
 use Rattle.reading.specs.declared.short.ShortReading.{ShortReading}
 use Rattle.reading.specs.Short.{Filled, FilledShort, notShort, wholeVersion}
 use Rattle.reading.specs.Value.{valueOf}
-use Rattle.compare.specs.Key.{keyOf}
+use Rattle.keys.specs.Key.{keyOf}
 use Rattle.compare.specs.Short.{compareNumbers, compareShorts}
-use Rattle.compare.specs.Versions.{compareKey, comparePublic}
+use Rattle.keys.specs.Versions.{compareKey, comparePublic}
 use Rattle.compare.proofs.Steps.{Differs, decided, undecided}
 use Rattle.compare.proofs.Shorts.{shorts-compare}
 use Rattle.roundtrip.proofs.ReadPlaces.{by-pick}

@@ -7,7 +7,7 @@ use Rattle.answers.specs.Written.{refusal}
 use Rattle.chars.specs.Text.{ascii}
 use Rattle.ranges.specs.Cut.{top, before, after}
 use Rattle.reading.specs.Value.{listed, valueOf, valueIn}
-use Rattle.compare.specs.Versions.{compareRelease, compareKey, comparePublic}
+use Rattle.keys.specs.Versions.{compareRelease, compareKey, comparePublic}
 use Rattle.roundtrip.proofs.Extremes.{computed}
 use Rattle.table.specs.declared.lookup.Looked.{Looked}
 use Rattle.table.specs.declared.lookup.Looked.the-variants.{Yes, No, Version}

@@ -48,10 +48,14 @@ module _ (s t : List ℕ) (T : List (Range Place)) (table : tableOf s ≡ ranges
     pub held-if-yes : looked s t ≡ Yes → mem lePlace T (before (withoutLabel (valueIn t))) ≡ true
     held-if-yes e = yes-true _ (sym lookup-in-well-formed ∙ e)
 
--- a table that is not well formed is refused, whatever the version; with 18 at 0 and no other number or place
-pub lookup-bad : (s t : List ℕ) → tableOf s ≡ bad → looked s t ≡ Table (refusal 18 0)
+-- a table that is not well formed is refused, whatever the version
+pub lookup-refused : (s t : List ℕ) (number place : ℕ) → tableOf s ≡ refused number place → looked s t ≡ Table (refusal number place)
 unfolding looked
-lookup-bad s t e = rw e
+lookup-refused s t number place e = rw e
+
+-- with 18 at 0 and no other number or place
+pub lookup-bad : (s t : List ℕ) → tableOf s ≡ bad → looked s t ≡ Table (refusal 18 0)
+lookup-bad s t e = lookup-refused s t 18 0 e
 
 table-refused : (s : List ℕ) (r : Tabled) (v : Verdict) (w : Value) (x : Refusal) → tableOf s ≡ r → lookedUp r v w ≡ Table x →
     (x ≡ refusal 18 0) × (tableOf s ≡ bad)

@@ -7,7 +7,7 @@ use Rattle.ranges.specs.Cut.{bot, top, before, after}
 use Rattle.ranges.specs.Range.{Range, mem}
 use Rattle.parts.specs.declared.fields.Version.{Version}
 use Rattle.reading.specs.Value.{Value, valueOf}
-use Rattle.compare.specs.Versions.{compareRelease, comparePublic}
+use Rattle.keys.specs.Versions.{compareRelease, comparePublic}
 use Rattle.ends.specs.Cut.{Place, lePlace}
 use Rattle.table.specs.Lookup.{withoutLabel}
 

@@ -14,7 +14,7 @@ use Rattle.ranges.specs.Cut.{bot}
 use Rattle.ranges.specs.Range.{Range}
 use Rattle.ranges.specs.Table.{Beyond, Asc}
 use Rattle.ranges.proofs.Cuts.{cut-bounded}
-use Rattle.compare.specs.Versions.{comparePublic}
+use Rattle.keys.specs.Versions.{comparePublic}
 use Rattle.roundtrip.proofs.ReadPlaces.{by-pick}
 use Rattle.ends.specs.Cut.{Place, lePlace}
 use Rattle.ends.specs.Writable.{Lower, Upper, Written}

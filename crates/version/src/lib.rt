@@ -1,13 +1,13 @@
 // The version layer's promises: each entry point takes any bytes, and says all of its answer.
 use answers::Written;
-use compare::text::Compared;
+use keys::compared::Compared;
 use reading::text::PatternReading;
 use reading::text::Reading;
 use reading::text::read_pattern;
 use reading::text::read_version;
 use word::packed::Worded;
 ghost use mathlib.Core.Path.{_≡_};
-ghost use Rattle.compare.specs.Compared.{compared};
+ghost use Rattle.keys.specs.Compared.{compared};
 ghost use Rattle.normal.specs.Normal.{NormalPrinted};
 ghost use Rattle.reading.specs.Reading.{Read, VersionRead, patternOf, versionOf};
 ghost use Rattle.reading.specs.Segment.{segmentText};

@@ -12,8 +12,8 @@ use Rattle.reading.specs.declared.text.Verdict.{Verdict}
 use Rattle.reading.specs.declared.text.Verdict.the-variants.{Accepted, Refused as NotRead}
 use Rattle.reading.specs.Reading.{versionOf}
 use Rattle.reading.specs.Value.{Value, valueIn}
-use Rattle.compare.specs.declared.text.Compared.the-variants.{Equal}
-use Rattle.compare.specs.Compared.{answered, compared}
+use Rattle.keys.specs.declared.compared.Compared.the-variants.{Equal}
+use Rattle.keys.specs.Compared.{answered, compared}
 use Rattle.word.specs.declared.packed.Word.{Word}
 use Rattle.word.specs.declared.packed.Worded.the-variants.{Word as IsWord, NotSmall}
 use Rattle.word.specs.Small.{isSmall, wordOf}

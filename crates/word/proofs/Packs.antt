@@ -22,7 +22,7 @@ use Rattle.reading.specs.declared.short.ShortReading.{ShortReading}
 use Rattle.reading.specs.Short.{shortOf, wholeVersion}
 use Rattle.reading.proofs.ShortRead.{short-said}
 use Rattle.reading.specs.Value.{Label, listed, valueOf}
-use Rattle.compare.specs.Key.{kindOf}
+use Rattle.keys.specs.Key.{kindOf}
 use Rattle.word.specs.declared.small.Fitted.{Fitted}
 use Rattle.word.specs.declared.small.Fitted.the-variants.{Fits, Large}
 use Rattle.word.specs.declared.packed.Worded.{Worded}

@@ -12,8 +12,8 @@ use Rattle.parts.specs.declared.fields.Pre.{Pre}
 use Rattle.parts.specs.declared.fields.Pre.the-variants.{Absent as NoPre, Is as IsPre}
 use Rattle.parts.specs.declared.fields.Part.{Part}
 use Rattle.parts.specs.declared.fields.Part.the-variants.{Absent as NoPart, Is as IsPart}
-use Rattle.compare.specs.Key.{preKind, kindOf, keyOf}
-use Rattle.compare.specs.Versions.{compareKey}
+use Rattle.keys.specs.Key.{preKind, kindOf, keyOf}
+use Rattle.keys.specs.Versions.{compareKey}
 use Rattle.word.specs.Small.{onlySuffix}
 
 -- at most one part is there, and this is its number

@@ -9,9 +9,9 @@ use Rattle.order.specs.Compare.{padded}
 use Rattle.order.proofs.Ordering.{also-assoc}
 use Rattle.order.proofs.Numbers.{compare-means, compare-is}
 use Rattle.reading.specs.Value.{Value}
-use Rattle.compare.specs.Key.{kindOf}
-use Rattle.compare.specs.Versions.{compareRelease, compareKey, key, comparePublic, compareValues}
-use Rattle.compare.proofs.Orders.{unlabelled}
+use Rattle.keys.specs.Key.{kindOf}
+use Rattle.keys.specs.Versions.{compareRelease, compareKey, key, comparePublic, compareValues}
+use Rattle.keys.proofs.Orders.{unlabelled}
 use Rattle.word.specs.Small.{isSmall, releaseWord, wordOf}
 use Rattle.word.proofs.Digits.{digit, four, four-compare}
 use Rattle.word.proofs.Suffixes.{kind-digit, only, key-decides}

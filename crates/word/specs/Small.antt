@@ -10,7 +10,7 @@ use Rattle.parts.specs.declared.fields.Pre.the-variants.{Absent as NoPre, Is as
 use Rattle.parts.specs.declared.fields.Part.{Part}
 use Rattle.parts.specs.declared.fields.Part.the-variants.{Absent as NoPart, Is as IsPart}
 use Rattle.reading.specs.Value.{Label, Value}
-use Rattle.compare.specs.Key.{kindOf}
+use Rattle.keys.specs.Key.{kindOf}
 
 -- at most four release numbers, the first at most 65535 and the others at most 255
 unfoldable pub smallRelease : List ℕ → Bool

@@ -1,7 +1,7 @@
 -- `compare::key::compare_keys` meets its contract: one comparison after another.
 -- Assumes nothing.
 use borrow.Author.Needs.{needs}
-use Rattle.compare.specs.Versions.{compareKey}
+use Rattle.keys.specs.Versions.{compareKey}
 use Rattle.compare.proofs.Steps.{decided, undecided}
 use Rattle.compare.proofs.key.compare_keys.Statement.{statement}
 use Rattle.compare.proofs.key.compare_keys.Tie as tie

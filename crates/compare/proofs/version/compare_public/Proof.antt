@@ -1,7 +1,7 @@
 -- `compare::version::compare_public` meets its contract: the keys decide where the releases do not.
 -- Assumes nothing.
 use borrow.Author.Needs.{needs}
-use Rattle.compare.specs.Versions.{comparePublic}
+use Rattle.keys.specs.Versions.{comparePublic}
 use Rattle.compare.proofs.Steps.{decided}
 use Rattle.compare.proofs.Texts.{keys-compared}
 use Rattle.compare.proofs.version.compare_public.Statement.{statement}

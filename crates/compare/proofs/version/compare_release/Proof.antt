@@ -2,7 +2,7 @@
 -- Assumes nothing.
 use borrow.Author.Needs.{needs}
 use Rattle.reading.specs.Value.{valueOf}
-use Rattle.compare.specs.Versions.{compareRelease}
+use Rattle.keys.specs.Versions.{compareRelease}
 use Rattle.compare.proofs.Steps.{decided}
 use Rattle.compare.proofs.Counts.{count-within, count-is, release-compared}
 use Rattle.compare.proofs.version.compare_release.Statement.{statement}

@@ -8,9 +8,9 @@ use Rattle.reading.specs.declared.text.Verdict.{Verdict}
 use Rattle.reading.specs.declared.text.Verdict.the-variants.{Accepted, Refused}
 use Rattle.reading.specs.Reading.{versionOf}
 use Rattle.reading.specs.Value.{valueIn}
-use Rattle.compare.specs.declared.text.Compared.{Compared}
-use Rattle.compare.specs.declared.text.Compared.the-variants.{Less, Equal, Greater, First, Second}
-use Rattle.compare.specs.Versions.{compareValues}
+use Rattle.keys.specs.declared.compared.Compared.{Compared}
+use Rattle.keys.specs.declared.compared.Compared.the-variants.{Less, Equal, Greater, First, Second}
+use Rattle.keys.specs.Versions.{compareValues}
 
 abbrev pub answered : Order → Compared
 answered Below = Less

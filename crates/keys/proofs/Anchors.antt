@@ -14,10 +14,10 @@ use Rattle.parts.specs.declared.fields.Part.{Part}
 use Rattle.parts.specs.declared.fields.Part.the-variants.{Absent as NoPart, Is as IsPart}
 use Rattle.reading.specs.declared.text.Verdict.the-variants.{Accepted, Refused}
 use Rattle.reading.specs.Value.{Label, number, text, Value}
-use Rattle.compare.specs.declared.text.Compared.the-variants.{First, Second}
-use Rattle.compare.specs.Key.{largest}
-use Rattle.compare.specs.Versions.{compareRelease, compareKey, comparePublic, compareLabel, compareValues}
-use Rattle.compare.specs.Compared.{judged}
+use Rattle.keys.specs.declared.compared.Compared.the-variants.{First, Second}
+use Rattle.keys.specs.Key.{largest}
+use Rattle.keys.specs.Versions.{compareRelease, compareKey, comparePublic, compareLabel, compareValues}
+use Rattle.keys.specs.Compared.{judged}
 
 abbrev version : List ℕ → Pre → Part → Part → List Label → Value
 version release pre post dev label = record { epoch = 0; release = release; pre = pre; post = post; dev = dev; label = label }

@@ -15,8 +15,8 @@ use Rattle.order.proofs.Missing.{option-laws}
 use Rattle.order.proofs.Padded.{padded-laws}
 use Rattle.parts.specs.declared.fields.Version.{Version}
 use Rattle.reading.specs.Value.{Value, valueOf}
-use Rattle.compare.specs.Key.{postOption}
-use Rattle.compare.specs.Versions.{compareRelease, compareKey, key, comparePublic, numberIn, textIn, compareLabel, compareValues}
+use Rattle.keys.specs.Key.{postOption}
+use Rattle.keys.specs.Versions.{compareRelease, compareKey, key, comparePublic, numberIn, textIn, compareLabel, compareValues}
 
 release-laws : Laws compareRelease
 unfolding compareRelease

@@ -7,7 +7,7 @@ use Rattle.parts.specs.declared.fields.Pre.{Pre}
 use Rattle.parts.specs.declared.fields.Pre.the-variants.{Absent as NoPre, Is as IsPre}
 use Rattle.parts.specs.declared.fields.Part.{Part}
 use Rattle.parts.specs.declared.fields.Part.the-variants.{Absent as NoPart, Is as IsPart}
-use Rattle.compare.specs.declared.key.Key.{Key}
+use Rattle.keys.specs.declared.key.Key.{Key}
 
 -- the largest number that a version can hold
 abbrev pub largest : ℕ

@@ -4,8 +4,8 @@ use mathlib.Core.Option.{Option, none, some}
 use Prim.Native.Nat.{ℕ, compare}
 use Rattle.order.specs.Compare.{Comparison, by, lex, list, padded, option}
 use Rattle.reading.specs.Value.{Label, number, text, Value}
-use Rattle.compare.specs.declared.key.Key.{Key}
-use Rattle.compare.specs.Key.{postOption, keyOf}
+use Rattle.keys.specs.declared.key.Key.{Key}
+use Rattle.keys.specs.Key.{postOption, keyOf}
 
 -- epoch, then release, the shorter padded with zeros
 unfoldable pub compareRelease : Comparison Value

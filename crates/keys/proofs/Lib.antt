@@ -1,0 +1,2 @@
+pub mod Anchors
+pub mod Orders
