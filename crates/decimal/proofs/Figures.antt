@@ -5,10 +5,11 @@ use mathlib.Core.Bool.{Bool, true, false}
 use mathlib.Core.List.{List, [], _∷_, _++_}
 use Prim.Native.Nat.{ℕ, zero, suc, _+_, _/_, _%_, _^_, _≤_, _<_}
 use native.Mathlib.Nat.{le-refl, pow-suc}
+use native.Mathlib.Decide.{decLt}
 use native.Mathlib.Omega.{arith}
 use lib.Dec.{ltb}
 use lib.ListN.{length, length-append}
-use borrow.Author.Tests.{lt-ltb, le-ltb, ltb-true, ltb-false}
+use borrow.Author.Tests.{lt-ltb, le-ltb, ltb-false}
 use Rattle.decimal.specs.Digits.{figure, digits, decimal}
 
 -- enough depth is enough
@@ -44,14 +45,15 @@ more-digits n h = rw (le-ltb n 10 h) (deeper n (le-refl n))
         (deep-enough f (n / 10) (n / 10) (ltb (n / 10) 10) refl (omega arith) (le-refl (n / 10)))
 
 -- a number below 10 ^ suc k has at most suc k digits
-few-digits : (k n : ℕ) (b : Bool) → ltb n 10 ≡ b → n < 10 ^ suc k → length (decimal n) ≤ suc k
-few-digits zero n true e h = rw (one-digit n (ltb-true n 10 e)) (omega arith)
-few-digits (suc k) n true e h = rw (one-digit n (ltb-true n 10 e)) (omega arith)
-few-digits zero n false e h = let g : 10 ≤ n = ltb-false n 10 e in absurd (omega arith)
-few-digits (suc k) n false e h =
-    let less : n / 10 < 10 ^ suc k = omega (arith, pow-suc 10 (suc k)) in
-    let shorter : length (decimal (n / 10)) ≤ suc k = few-digits k (n / 10) (ltb (n / 10) 10) refl less in
-    rw (more-digits n (ltb-false n 10 e), length-append) (omega arith)
+pub few-digits : (k n : ℕ) → n < 10 ^ suc k → length (decimal n) ≤ suc k
+few-digits zero n h = rw (one-digit n (omega arith)) (omega arith)
+few-digits (suc k) n h =
+    elim (decLt n 10) [
+      | yes l ↦ rw (one-digit n l) (omega arith)
+      | no l ↦
+          let shorter = few-digits k (n / 10) (omega (arith, pow-suc 10 (suc k))) in
+          rw (more-digits n (omega arith)) (omega (arith, shorter, length-append (decimal (n / 10)) (figure (n % 10) ∷ [])))
+    ]
 
 pub twenty-digits : (n : ℕ) → n < 2 ^ 64 → length (decimal n) ≤ 20
-twenty-digits n h = few-digits 19 n (ltb n 10) refl (omega arith)
+twenty-digits n h = few-digits 19 n (omega arith)

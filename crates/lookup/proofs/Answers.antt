@@ -1,39 +1,27 @@
--- Answer lines: what is put, part by part, and that each finds room.
+-- Answer lines: what is put, and that each finds room.
 -- Assumes nothing.
 use mathlib.Core.Path.{_≡_, refl, sym, ap, _∙_}
 use mathlib.Core.Bool.{Bool, true, false, false≢true}
 use mathlib.Core.List.{List, [], _∷_, _++_}
-use Prim.Native.Nat.{ℕ, _+_, _≤_}
+use Prim.Native.Nat.{ℕ, _≤_}
 use native.Mathlib.Omega.{arith}
 use lib.ListN.{length, length-append}
 use Rattle.answers.specs.declared.Refusal.{Refusal}
 use Rattle.chars.specs.Text.{ascii}
-use Rattle.decimal.specs.Put.{Wrote, Put}
-use Rattle.decimal.proofs.Puts.{then}
+use Rattle.decimal.specs.Put.{Put}
 use Rattle.lines.specs.Window.{lineFeed}
-use Rattle.reading.specs.declared.text.Reading.{Reading}
 use Rattle.reading.specs.declared.text.Verdict.{Verdict}
 use Rattle.reading.specs.declared.text.Verdict.the-variants.{Accepted, Refused}
 use Rattle.reading.specs.Reading.{versionOf}
 use Rattle.reading.specs.Value.{Value, valueIn}
-use Rattle.normal.specs.Normal.{versionText, normalText}
+use Rattle.normal.specs.Normal.{normalText}
 use Rattle.roundtrip.proofs.Roundtrip.{normal-longest}
 use Rattle.table.specs.declared.lookup.Looked.{Looked}
 use Rattle.table.specs.declared.lookup.Looked.the-variants.{Yes, No, Table, Version}
 use Rattle.table.specs.Table.{Tabled, refused, ranges, tableOf}
 use Rattle.table.specs.Lookup.{lookedUp, looked}
-use Rattle.lookup.specs.declared.output.Room.{Room}
-use Rattle.lookup.specs.declared.output.Room.the-variants.{At}
-use Rattle.lookup.specs.Answer.{refusalLine, normalLine, answerLine, longestAnswer}
-use Rattle.lookup.specs.Room.{roomAt}
-
-pub three-put : (s t u : List ℕ) {a b c d : List ℕ} {i j k l : ℕ} → Wrote a i s b j → Wrote b j t c k → Wrote c k u d l → Wrote a i (s ++ t ++ u) d l
-three-put s t u p q r = then (then p q) r
-
-pub normal-put : (name version : List ℕ) {read : Reading} → read ≡ versionOf version → {a b c d : List ℕ} {i j k l : ℕ} → Wrote a i name b j →
-    Wrote b j (versionText version (read .version)) c k → Wrote c k (lineFeed ∷ []) d l → Wrote a i (normalLine name version) d l
-unfolding normalText
-normal-put name version {read} e p q s = three-put name (normalText version) (lineFeed ∷ []) p (rw e at q) s
+use Rattle.say.specs.Text.{refusalLine, normalLine}
+use Rattle.lookup.specs.Answer.{answerLine, longestAnswer}
 
 -- the version was read
 abbrev says : Looked → Bool
@@ -84,8 +72,3 @@ module _ (table version : List ℕ) {r : Looked} (e : r ≡ looked table version
       pub answer-refused : r ≡ Version x → Put most old at (refusalLine (ascii "refused ") x) new next →
           Put longestAnswer old at (answerLine (looked table version) version) new next
       answer-refused f p = record { wrote = rw (← e, f) (p .wrote); near = omega (arith, p .near, few) }
-
--- an answer that was put where there was room ends inside
-pub stays-inside : {room : Room} {at next size full : ℕ} → room ≡ At at → roomAt room + longestAnswer ≤ size → full ≡ size →
-    next ≤ at + longestAnswer → next ≤ full
-stays-inside {room} {at} {next} {size} {full} e h same g = let there : at + longestAnswer ≤ size = rw e at h in omega (arith, there, g, same)

@@ -18,10 +18,11 @@ use Rattle.clause.proofs.Lists.{listed-long}
 use Rattle.table.specs.Table.{Tabled, refused, ranges, tableOf}
 use Rattle.table.specs.Lookup.{lookedUp, looked}
 use Rattle.lines.specs.Run.{Shown, AllShown}
-use Rattle.lookup.specs.Answer.{refusalLine, answerLine}
+use Rattle.say.specs.Text.{refusalLine}
+use Rattle.lookup.specs.Answer.{answerLine}
 
-abbrev pub answerTo : List ℕ → List ℕ → List ℕ
-answerTo table version = answerLine (looked table version) version
+abbrev pub lineFor : List ℕ → List ℕ → List ℕ
+lineFor table version = answerLine (looked table version) version
 
 -- the one answer to texts that are too long
 abbrev longLine : Tabled → List ℕ
@@ -32,7 +33,7 @@ by-table : (t : Tabled) (w : Value) (version : List ℕ) → answerLine (lookedU
 by-table (refused number place) w version = refl
 by-table (ranges T) w version = refl
 
-long-answer : (table version : List ℕ) → longest < length version → answerTo table version ≡ longLine (tableOf table)
+long-answer : (table version : List ℕ) → longest < length version → lineFor table version ≡ longLine (tableOf table)
 unfolding looked
 long-answer table version long =
     rw (version-refused-exactly version 8 longest .1 (Row.too-long long)) (by-table (tableOf table) (valueIn version) version)
@@ -46,13 +47,13 @@ module _ (line shown : List ℕ) (s : Shown longest line shown) where
       ]
 
   -- a version's line, and the list's
-  pub shown-answer : (table : List ℕ) → answerTo table shown ≡ answerTo table line
-  shown-answer table = shown-as (answerTo table) (λ x y h g. long-answer table x h ∙ sym (long-answer table y g))
+  pub shown-answer : (table : List ℕ) → lineFor table shown ≡ lineFor table line
+  shown-answer table = shown-as (lineFor table) (λ x y h g. long-answer table x h ∙ sym (long-answer table y g))
 
   pub shown-list : listOf shown ≡ listOf line
   shown-list = shown-as listOf (λ x y h g. sym (listed-long x h) ∙ listed-long y g)
 
 -- all versions of an input
-pub same-answers : (table : List ℕ) (lines shown : List (List ℕ)) → AllShown longest lines shown → map (answerTo table) shown ≡ map (answerTo table) lines
+pub same-answers : (table : List ℕ) (lines shown : List (List ℕ)) → AllShown longest lines shown → map (lineFor table) shown ≡ map (lineFor table) lines
 same-answers table [] [] s = refl
 same-answers table (line ∷ lines) (x ∷ shown) s = rw (shown-answer line x (s .0) table, same-answers table lines shown (s .1))

@@ -1,9 +1,8 @@
 // The lookup program: a list on the first line of standard input, a version on each line behind it, and an answer line to each version.
 mod answer;
-mod output;
 
+use answer::LONGEST_ANSWER;
 use answer::put_answer;
-use answer::put_refusal;
 use answers::Refusal;
 use answers::Written;
 use chars::place::part;
@@ -12,8 +11,9 @@ use lines::input::next_line;
 use lines::window::Found;
 use lines::window::Window;
 use lines::window::text_of;
-use output::Room;
-use output::make_room;
+use say::room::Room;
+use say::room::make_room;
+use say::text::put_refusal;
 ghost use Prim.Native.Nat.{_≤_};
 ghost use lib.ListN.{length};
 ghost use Rattle.lookup.specs.Answer.{longestAnswer};
@@ -59,7 +59,7 @@ fn gather(buffer: &mut [u8], first: Window, table: &[u8], out: &mut [u8]) -> usi
         let Found::Line(from, to) = found else {
             return end;
         };
-        let Room::At(at) = make_room(out, end) else {
+        let Room::At(at) = make_room(out, end, LONGEST_ANSWER) else {
             return 0;
         };
         end = put_answer(out, at, table, part(buffer, from, to));

@@ -1,9 +1,9 @@
--- `lookup::answer::put_normal` meets its contract: three texts in a row.
+-- `say::text::put_normal` meets its contract: three texts in a row.
 -- Assumes nothing.
-use Rattle.lookup.proofs.Answers.{normal-put}
+use Rattle.say.proofs.Texts.{normal-put}
 use borrow.Author.Needs.{needs}
-use Rattle.lookup.proofs.answer.put_normal.Statement.{statement}
-use Rattle.lookup.proofs.answer.put_normal.Tie as tie
+use Rattle.say.proofs.text.put_normal.Statement.{statement}
+use Rattle.say.proofs.text.put_normal.Tie as tie
 
 pub put-normal-spec : {M : Type 1} → statement M
 put-normal-spec =

@@ -1,9 +1,9 @@
--- `lookup::answer::put_refusal` meets its contract: three texts in a row.
+-- `say::text::put_refusal` meets its contract: three texts in a row.
 -- Assumes nothing.
-use Rattle.lookup.proofs.Answers.{three-put}
+use Rattle.say.proofs.Texts.{three-put}
 use borrow.Author.Needs.{needs}
-use Rattle.lookup.proofs.answer.put_refusal.Statement.{statement}
-use Rattle.lookup.proofs.answer.put_refusal.Tie as tie
+use Rattle.say.proofs.text.put_refusal.Statement.{statement}
+use Rattle.say.proofs.text.put_refusal.Tie as tie
 
 pub put-refusal-spec : {M : Type 1} → statement M
 put-refusal-spec =
