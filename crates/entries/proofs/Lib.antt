@@ -1,0 +1,5 @@
+pub mod Holding
+pub mod Numbered
+pub mod Lending
+pub mod Firsts
+pub mod Identified
