@@ -1,0 +1,5 @@
+pub mod Anchors
+pub mod Breaking
+pub mod TwoLowest
+pub mod Answers
+pub mod Exactly

@@ -1,0 +1,4 @@
+pub mod Lowest
+pub mod Guilt
+pub mod Fit
+pub mod Cases
