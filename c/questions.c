@@ -10,7 +10,7 @@
 _Static_assert(sizeof(knappulf_version) == 89 * sizeof(uint64_t), "the fields are 89 numbers");
 _Static_assert(sizeof(knappulf_answer) == 3 * sizeof(uint64_t), "an answer is three numbers");
 
-enum { LONGEST_LINE = 65536, MOST_ROOM = 16384, MOST_WORDS = 4 };
+enum { LONGEST_LINE = 65536, MOST_ROOM = 16384, MOST_WORDS = 4, MOST_ENTRIES = 70 };
 
 typedef struct bytes {
     uint8_t at[LONGEST_LINE / 2];
@@ -222,24 +222,69 @@ static int ask_two(const char *kind, const bytes *first, const bytes *second)
     return 1;
 }
 
-/* Cuts a line at its blanks. */
-static size_t cut(char *line, char *words[MOST_WORDS])
+/* Cuts a text at a separator: into so many parts at most, and says how many there are. */
+static size_t cut(char *text, char separator, char *parts[], size_t most)
 {
     size_t count = 0;
-    for (char *word = line; word && count < MOST_WORDS; count++) {
-        words[count] = word;
-        word = strchr(word, ' ');
-        if (word)
-            *word++ = 0;
+    for (char *part = text; part; count++) {
+        if (count < most)
+            parts[count] = part;
+        part = strchr(part, separator);
+        if (part)
+            *part++ = 0;
     }
     return count;
+}
+
+/* Reads entries `ID:START:LENGTH` with commas between two, `-` for none; so many as there is room for are kept. */
+static int entries_of(char *word, knappulf_entry entries[MOST_ENTRIES], size_t *count)
+{
+    *count = 0;
+    if (strcmp(word, "-") == 0)
+        return 1;
+    for (char *next = word; next; (*count)++) {
+        char *fields[3], *entry = next;
+        uint64_t numbers[3];
+        next = strchr(entry, ',');
+        if (next)
+            *next++ = 0;
+        if (cut(entry, ':', fields, 3) != 3)
+            return 0;
+        for (int i = 0; i < 3; i++)
+            if (!number_of(fields[i], i ? UINT64_MAX : UINT16_MAX, &numbers[i]))
+                return 0;
+        if (*count < MOST_ENTRIES)
+            entries[*count] = (knappulf_entry){(uint16_t)numbers[0], numbers[1], numbers[2]};
+    }
+    return 1;
+}
+
+static int ask_register(char *word, const bytes *buffer, const bytes *version)
+{
+    static knappulf_entry entries[MOST_ENTRIES];
+    size_t count;
+    knappulf_answer answer;
+    if (!entries_of(word, entries, &count))
+        return 0;
+    uint8_t number = knappulf_register_entries(entries, count, buffer->at, buffer->length, version->at, version->length, &answer);
+    if (number)
+        say_refusal(answer.of == 1 ? "register" : "version", number, &answer);
+    else if (KNAPPULF_SECOND(answer.value))
+        printf("two %d %d", KNAPPULF_LOWEST(answer.value), KNAPPULF_SECOND(answer.value));
+    else if (answer.value)
+        printf("one %d", KNAPPULF_LOWEST(answer.value));
+    else
+        printf("none");
+    return 1;
 }
 
 static int answer_line(char *line)
 {
     static bytes first, second;
     char *words[MOST_WORDS];
-    size_t count = cut(line, words);
+    size_t count = cut(line, ' ', words, MOST_WORDS);
+    if (count == 4 && strcmp(words[0], "register") == 0)
+        return decode(words[2], &first) && decode(words[3], &second) && ask_register(words[1], &first, &second);
     if (count < 2 || !decode(words[1], &first))
         return 0;
     if (count == 2)

@@ -1,4 +1,5 @@
-/* Knappulf: versions in the style of PEP 440, lists of version clauses, and the range tables compiled from them.
+/* Knappulf: versions in the style of PEP 440, lists of version clauses, the range tables compiled from them, and
+ * registers of such tables.
  *
  * Link target/staticlib/libknappulf.a (`rt staticlib knappulf` makes it; x86-64 Linux). It needs memcpy and memset of
  * the C library and nothing else. Each function returns on every input, allocates nothing, keeps nothing between two
@@ -44,13 +45,19 @@ enum {
     KNAPPULF_LABEL_IN_CLAUSE = 15,
     KNAPPULF_SHORT_COMPATIBLE = 16,
     KNAPPULF_TOO_MANY_CLAUSES = 17,
-    KNAPPULF_BAD_TABLE = 18
+    KNAPPULF_BAD_TABLE = 18,
+    KNAPPULF_TOO_MANY_ENTRIES = 30,
+    KNAPPULF_IDENTIFIER_ZERO = 31,
+    KNAPPULF_IDENTIFIER_TAKEN = 32,
+    KNAPPULF_ENTRY_OUTSIDE = 33
 };
 
 typedef struct knappulf_answer {
     uint64_t value; /* each function says what it is; 0 where the call is refused */
-    uint64_t place; /* of a refusal, in bytes from 0; for number 11 the length that is needed; else 0 */
-    uint64_t of;    /* what is refused: 1 the first text, list or table, or the buffer; 2 the second text; else 0 */
+    uint64_t place; /* of a refusal, in bytes from 0; for number 11 the length that is needed; of a register the guilty
+                     * entry's index, from 0; else 0 */
+    uint64_t of;    /* what is refused: 1 the first text, list, table or register, or the buffer; 2 the second text or
+                     * the version; else 0 */
 } knappulf_answer;
 
 /* A segment of a local label. */
@@ -115,6 +122,38 @@ uint8_t knappulf_compile(const uint8_t *list, size_t list_length, uint8_t *buffe
 
 /* The value is 1 where the table holds the version, else 0. */
 uint8_t knappulf_lookup(const uint8_t *table, size_t table_length, const uint8_t *version, size_t version_length, knappulf_answer *answer);
+
+/* An entry of a register: an identifier from 1 to 65535, and where its table lies in the buffer. */
+typedef struct knappulf_entry {
+    uint16_t id;
+    size_t start;
+    size_t length;
+} knappulf_entry;
+
+/* Which tables of a register hold the version. The register has an entry for each identifier, at most 64, and its table
+ * is the bytes of the buffer from a start on, so many as the length says; a start or a length that is missing is 0.
+ * Tables may overlap, and two entries may have the same one. The value is the lowest identifier (KNAPPULF_LOWEST) and
+ * the second lowest (KNAPPULF_SECOND) of those whose tables do: 0 for each that there is not. */
+uint8_t knappulf_register(const uint16_t *ids, size_t ids_length, const size_t *starts, size_t starts_length, const size_t *lengths,
+    size_t lengths_length, const uint8_t *buffer, size_t buffer_length, const uint8_t *version, size_t version_length,
+    knappulf_answer *answer);
+
+#define KNAPPULF_LOWEST(value) ((uint16_t)((value) % 65536))
+#define KNAPPULF_SECOND(value) ((uint16_t)((value) / 65536))
+
+/* The same, of a list of entries. */
+static inline uint8_t knappulf_register_entries(const knappulf_entry *entries, size_t count, const uint8_t *buffer,
+    size_t buffer_length, const uint8_t *version, size_t version_length, knappulf_answer *answer)
+{
+    uint16_t ids[65];
+    size_t starts[65], lengths[65], n = count < 65 ? count : 65; /* a 65th entry is one too many, whatever follows */
+    for (size_t i = 0; i < n; i++) {
+        ids[i] = entries[i].id;
+        starts[i] = entries[i].start;
+        lengths[i] = entries[i].length;
+    }
+    return knappulf_register(ids, n, starts, n, lengths, n, buffer, buffer_length, version, version_length, answer);
+}
 
 #ifdef __cplusplus
 }

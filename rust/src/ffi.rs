@@ -53,4 +53,17 @@ extern "C" {
     pub fn knappulf_accepts(list: *const u8, list_length: usize, version: *const u8, version_length: usize, answer: *mut Answer) -> u8;
     pub fn knappulf_compile(list: *const u8, length: usize, buffer: *mut u8, room: usize, answer: *mut Answer) -> u8;
     pub fn knappulf_lookup(table: *const u8, table_length: usize, version: *const u8, version_length: usize, answer: *mut Answer) -> u8;
+    pub fn knappulf_register(
+        ids: *const u16,
+        ids_length: usize,
+        starts: *const usize,
+        starts_length: usize,
+        lengths: *const usize,
+        lengths_length: usize,
+        buffer: *const u8,
+        buffer_length: usize,
+        version: *const u8,
+        version_length: usize,
+        answer: *mut Answer,
+    ) -> u8;
 }

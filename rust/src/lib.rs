@@ -1,4 +1,5 @@
-//! Versions in the style of PEP 440, lists of version clauses, and the range tables compiled from them.
+//! Versions in the style of PEP 440, lists of version clauses, the range tables compiled from them, and registers of
+//! such tables.
 //!
 //! The work is done by a library written in Rattle, whose every function is proved to meet its contract; this crate
 //! hands it slices and gives its answers types. Nothing is allocated, and texts are bytes.
@@ -14,9 +15,11 @@
 
 mod ffi;
 mod refusal;
+mod register;
 mod version;
 
 pub use refusal::{Input, Refusal, Refused};
+pub use register::{Entry, Fit, fit};
 pub use version::{PreKind, Segment, Version};
 
 use core::cmp::Ordering;
@@ -34,6 +37,12 @@ fn answered(number: u8, answer: Answer) -> Result<u64, Refusal> {
         0 => Ok(answer.value),
         _ => Err(Refusal { number, place: answer.place as usize }),
     }
+}
+
+/// The same, with what is refused: the second input, or else this one.
+fn answered_of(number: u8, answer: Answer, first: Input) -> Result<u64, Refused> {
+    let input = if answer.of == 2 { Input::Second } else { first };
+    answered(number, answer).map_err(|refusal| Refused { input, refusal })
 }
 
 /// Reads into the version, and answers with the call's value.
@@ -56,8 +65,7 @@ fn judge_by(judge: Judge, first: &[u8], second: &[u8]) -> Result<u64, Refused> {
     let mut answer = Answer::default();
     // SAFETY: both slices are alive, and the answer is this function's own.
     let number = unsafe { judge(first.as_ptr(), first.len(), second.as_ptr(), second.len(), &mut answer) };
-    let input = if answer.of == 2 { Input::Second } else { Input::First };
-    answered(number, answer).map_err(|refusal| Refused { input, refusal })
+    answered_of(number, answer, Input::First)
 }
 
 fn count_by(counter: Counter, text: &[u8]) -> Result<u64, Refusal> {

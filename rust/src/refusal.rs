@@ -4,7 +4,8 @@ use core::fmt;
 
 /// A refusal: its number, and the place that it is about, in bytes from 0.
 ///
-/// For number 11, a buffer that is too short, the place is the length that is needed.
+/// For number 11, a buffer that is too short, the place is the length that is needed. In a register it is the index of
+/// the guilty entry.
 ///
 /// ```
 /// let refusal = knappulf::read(b"1.0-").unwrap_err();
@@ -17,16 +18,18 @@ pub struct Refusal {
     pub place: usize,
 }
 
-/// Which of two inputs is refused.
+/// Which input is refused.
 #[derive(Clone, Copy, Debug, PartialEq, Eq, Hash)]
 pub enum Input {
     /// The first text, the list or the table.
     First,
     /// The second text, or the version.
     Second,
+    /// A register, at one of its entries.
+    Register,
 }
 
-/// A refusal of one of two inputs.
+/// A refusal of one of several inputs.
 #[derive(Clone, Copy, Debug, PartialEq, Eq, Hash)]
 pub struct Refused {
     pub input: Input,
@@ -55,6 +58,10 @@ impl Refusal {
             16 => "~= asks for at least two release numbers",
             17 => "a list has at most 16 clauses",
             18 => "the range table is not well formed",
+            30 => "a register has at most 64 entries",
+            31 => "an identifier is not 0",
+            32 => "an earlier entry has the identifier",
+            33 => "the table lies outside the buffer",
             _ => "the library gave a number that has no meaning",
         }
     }
@@ -65,7 +72,7 @@ impl fmt::Display for Refusal {
         let (place, reason, number) = (self.place, self.reason(), self.number);
         match number {
             11 => write!(out, "refused: {reason}, {place} bytes are needed (number {number})"),
-            18 => write!(out, "refused: {reason} (number {number})"),
+            18 | 30..=33 => write!(out, "refused: {reason} (number {number})"),
             _ => write!(out, "refused at byte {place}: {reason} (number {number})"),
         }
     }
@@ -73,11 +80,11 @@ impl fmt::Display for Refusal {
 
 impl fmt::Display for Refused {
     fn fmt(&self, out: &mut fmt::Formatter<'_>) -> fmt::Result {
-        let input = match self.input {
-            Input::First => "first",
-            Input::Second => "second",
-        };
-        write!(out, "the {input} input is {}", self.refusal)
+        match self.input {
+            Input::First => write!(out, "the first input is {}", self.refusal),
+            Input::Second => write!(out, "the second input is {}", self.refusal),
+            Input::Register => write!(out, "entry {} of the register is {}", self.refusal.place, self.refusal),
+        }
     }
 }
 

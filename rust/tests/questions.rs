@@ -1,5 +1,5 @@
 //! Asks the questions that the gate replays (`crates/replay/stdin`), and compares with the answers there.
-use knappulf::{Input, PreKind, Refusal, Refused, Segment, Version};
+use knappulf::{Entry, Fit, Input, PreKind, Refusal, Refused, Segment, Version};
 use std::fmt::{Display, Write};
 use std::fs;
 
@@ -19,7 +19,7 @@ fn no(refusal: Refusal) -> String {
 }
 
 fn either(refused: Refused, first: &str, second: &str) -> String {
-    let who = if refused.input == Input::First { first } else { second };
+    let who = if refused.input == Input::Second { second } else { first };
     format!("{who} {} {}", refused.refusal.number, refused.refusal.place)
 }
 
@@ -76,6 +76,27 @@ fn answer(kind: &str, text: &[u8], more: &str) -> String {
     }
 }
 
+fn entries(word: &str) -> Vec<Entry> {
+    let entry = |said: &str| {
+        let mut numbers = said.split(':').map(|number| number.parse::<usize>().expect("a number"));
+        let mut next = || numbers.next().expect("three numbers");
+        Entry { id: next().try_into().expect("an identifier"), start: next(), length: next() }
+    };
+    if word == "-" { Vec::new() } else { word.split(',').map(entry).collect() }
+}
+
+fn register(words: &[&str]) -> String {
+    let fit = knappulf::fit(&entries(words[1]), &bytes(words[2]), &bytes(words[3]));
+    fit.map_or_else(
+        |refused| either(refused, "register", "version"),
+        |fit| match fit {
+            Fit::Nothing => "none".into(),
+            Fit::One(id) => format!("one {id}"),
+            Fit::Several(lowest, second) => format!("two {lowest} {second}"),
+        },
+    )
+}
+
 fn lines(file: &str) -> Vec<String> {
     let folder = option_env!("CARGO_MANIFEST_DIR").unwrap_or("rust");
     let path = format!("{folder}/../crates/replay/{file}");
@@ -91,8 +112,11 @@ fn the_questions_that_the_gate_replays() {
     let mut count = 0;
     for (question, expected) in asked {
         let words: Vec<&str> = question.split(' ').collect();
-        let text = bytes(words[1]);
-        assert_eq!(&answer(words[0], &text, words.get(2).unwrap_or(&"")), expected, "{question}");
+        let said = match words[0] {
+            "register" => register(&words),
+            kind => answer(kind, &bytes(words[1]), words.get(2).unwrap_or(&"")),
+        };
+        assert_eq!(&said, expected, "{question}");
         count += 1;
     }
     assert!(count > 6000, "only {count} questions");
@@ -110,7 +134,7 @@ fn a_compiled_table_answers_as_its_list() {
 
 #[test]
 fn every_refusal_has_a_sentence() {
-    for number in 1..=18 {
+    for number in (1..=18).chain(30..=33) {
         let sentence = Refusal { number, place: 7 }.to_string();
         assert!(!sentence.contains("no meaning"), "{number}: {sentence}");
     }

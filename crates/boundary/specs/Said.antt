@@ -2,14 +2,14 @@
 use mathlib.Core.Path.{_≡_}
 use mathlib.Core.Bool.{Bool, true, false}
 use mathlib.Core.List.{List, [], _∷_}
-use Prim.Native.Nat.{ℕ}
+use Prim.Native.Nat.{ℕ, _+_, _*_}
 use Rattle.answers.specs.declared.Refusal.{Refusal}
 use Rattle.answers.specs.declared.Written.{Written}
 use Rattle.answers.specs.declared.Written.the-variants.{Length, Refused as NotWritten}
 use Rattle.reading.specs.declared.text.Verdict.{Verdict}
 use Rattle.reading.specs.declared.text.Verdict.the-variants.{Accepted, Refused as NotRead}
-use Rattle.compare.specs.declared.text.Compared.{Compared}
-use Rattle.compare.specs.declared.text.Compared.the-variants.{Less, Equal, Greater, First, Second}
+use Rattle.keys.specs.declared.compared.Compared.{Compared}
+use Rattle.keys.specs.declared.compared.Compared.the-variants.{Less, Equal, Greater, First, Second}
 use Rattle.word.specs.declared.packed.Worded.{Worded}
 use Rattle.word.specs.declared.packed.Worded.the-variants.{Word, NotSmall, Refused as NotWorded}
 use Rattle.clause.specs.declared.list.Checked.{Checked}
@@ -18,6 +18,10 @@ use Rattle.accepting.specs.declared.accept.Accepts.{Accepts}
 use Rattle.accepting.specs.declared.accept.Accepts.the-variants.{Yes as Accepted-by, No as Not-accepted, List as OfList, Version as OfVersion}
 use Rattle.table.specs.declared.lookup.Looked.{Looked}
 use Rattle.table.specs.declared.lookup.Looked.the-variants.{Yes as Held, No as Not-held, Table as OfTable, Version as OfCandidate}
+use Rattle.choice.specs.declared.lowest.Lowest.{Lowest}
+use Rattle.choice.specs.declared.lowest.Lowest.the-variants.{Nothing, One, Two}
+use Rattle.choice.specs.declared.fit.Fit.{Fit}
+use Rattle.choice.specs.declared.fit.Fit.the-variants.{By, Register as OfRegister, Version as OfUnit}
 use Rattle.boundary.specs.declared.said.Said.{Said}
 
 abbrev pub answered : ℕ → Said
@@ -70,6 +74,17 @@ ofLooked Not-held = answered 0
 ofLooked Held = answered 1
 ofLooked (OfTable x) = refusedOf 1 x
 ofLooked (OfCandidate x) = refusedOf 2 x
+
+-- the lowest identifier and, 65,536 times, the second lowest; 0 for each that there is not: no identifier of a register that is not refused is 0
+abbrev pub ofLowest : Lowest → Said
+ofLowest Nothing = answered 0
+ofLowest (One id) = answered id
+ofLowest (Two first second) = answered (first + 65536 * second)
+
+abbrev pub ofFit : Fit → Said
+ofFit (By lowest) = ofLowest lowest
+ofFit (OfRegister x) = refusedOf 1 x
+ofFit (OfUnit x) = refusedOf 2 x
 
 abbrev pub left : Said → List ℕ
 left said = said .value ∷ said .place ∷ said .of ∷ []

@@ -2,13 +2,15 @@
 use accepting::accept::Accepts;
 use answers::Refusal;
 use answers::Written;
+use choice::fit::Fit;
+use choice::lowest::Lowest;
 use clause::list::Checked;
-use compare::text::Compared;
+use keys::compared::Compared;
 use reading::text::Verdict;
 use table::lookup::Looked;
 use word::packed::Worded;
 ghost use mathlib.Core.Path.{_≡_};
-ghost use Rattle.boundary.specs.Said.{Told, answered, refusedOf, ofVerdict, ofWritten, ofCompared, ofWorded, ofChecked, ofAccepts, ofLooked};
+ghost use Rattle.boundary.specs.Said.{Told, answered, refusedOf, ofVerdict, ofWritten, ofCompared, ofWorded, ofChecked, ofAccepts, ofLooked, ofLowest, ofFit};
 
 // A refusal's number and place, and which of the two texts it is about; or a value, with 0 for the rest.
 pub struct Said {
@@ -108,6 +110,27 @@ pub fn of_looked(looked: Looked) -> Said
         Looked::Yes => answer(1),
         Looked::Table(refusal) => refused(1, refusal),
         Looked::Version(refusal) => refused(2, refusal),
+    }
+}
+
+// Two identifiers in one number: each has 16 bits.
+fn of_lowest(lowest: Lowest) -> Said
+    ensures { λ r. ⌜ r ≡ ofLowest lowest ⌝ }
+{
+    match lowest {
+        Lowest::Nothing => answer(0),
+        Lowest::One(id) => answer(id as u64),
+        Lowest::Two(first, second) => answer(first as u64 + 65536 * (second as u64)),
+    }
+}
+
+pub fn of_fit(fit: Fit) -> Said
+    ensures { λ r. ⌜ r ≡ ofFit fit ⌝ }
+{
+    match fit {
+        Fit::By(lowest) => of_lowest(lowest),
+        Fit::Register(refusal) => refused(1, refusal),
+        Fit::Version(refusal) => refused(2, refusal),
     }
 }
 

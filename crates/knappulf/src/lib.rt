@@ -5,6 +5,7 @@ use boundary::fields::span_at;
 use boundary::said::of_accepts;
 use boundary::said::of_checked;
 use boundary::said::of_compared;
+use boundary::said::of_fit;
 use boundary::said::of_looked;
 use boundary::said::of_verdict;
 use boundary::said::of_worded;
@@ -15,20 +16,23 @@ use reading::segment::segment_bytes;
 use reading::segment::segment_of;
 use reading::short::read_short;
 use reading::text::Verdict;
+use register::plain::fit_numbers;
 ghost use mathlib.Core.Path.{_≡_};
 ghost use mathlib.Core.Bool.{false};
 ghost use lib.ListN.{length};
 ghost use Rattle.reading.specs.Reading.{patternOf, versionOf};
 ghost use Rattle.reading.specs.Segment.{segmentText};
 ghost use Rattle.normal.specs.Normal.{answerTo, filledTo, normalText};
-ghost use Rattle.compare.specs.Compared.{compared};
+ghost use Rattle.keys.specs.Compared.{compared};
 ghost use Rattle.word.specs.Worded.{wordAnswer};
 ghost use Rattle.clause.specs.List.{checked, listOf};
 ghost use Rattle.accepting.specs.Accept.{accepted};
 ghost use Rattle.compile.specs.Compiled as compiled;
 ghost use Rattle.table.specs.Lookup.{looked};
+ghost use Rattle.entries.specs.Held.{entriesOf};
+ghost use Rattle.choice.specs.Fit.{fitOf};
 ghost use Rattle.boundary.specs.Fields.{fieldsBy, segmentStart};
-ghost use Rattle.boundary.specs.Said.{Told, ofVerdict, ofWritten, ofCompared, ofWorded, ofChecked, ofAccepts, ofLooked};
+ghost use Rattle.boundary.specs.Said.{Told, ofVerdict, ofWritten, ofCompared, ofWorded, ofChecked, ofAccepts, ofLooked, ofFit};
 
 // The fields of a version. A refused text leaves them as they were.
 #[no_mangle]
@@ -143,4 +147,23 @@ pub extern "C" fn knappulf_lookup(table: &[u8], version: &[u8], answer: &mut [u6
     ensures { λ r. ⌜ Told (ofLooked (looked (now (table .entry)) (now (version .entry)))) (now (answer .exit)) r ⌝ }
 {
     tell(of_looked(seek::lookup(table, version)), answer)
+}
+
+// The value is the lowest identifier whose table holds the version and, 65,536 times, the second lowest: 0 for each that there is not. An entry
+// stands for each identifier; a start or a length that is missing is 0.
+#[no_mangle]
+pub extern "C" fn knappulf_register(
+    ids: &[u16],
+    starts: &[usize],
+    lengths: &[usize],
+    buffer: &[u8],
+    version: &[u8],
+    answer: &mut [u64; 3],
+) -> u8
+    ensures { λ r. ⌜ Told (ofFit (fitOf (entriesOf (now (ids .entry)) (now (starts .entry)) (now (lengths .entry))) (now (buffer .entry)) (now (version .entry)))) (now (answer .exit)) r ⌝ }
+{
+    tell(
+        of_fit(fit_numbers(ids, starts, lengths, buffer, version)),
+        answer,
+    )
 }

@@ -8,6 +8,8 @@ use crate::kinds::OfNumber;
 use crate::kinds::OfText;
 use crate::kinds::OfTexts;
 use crate::kinds::kind_of;
+use crate::listed::read_entries;
+use crate::say::put_fit;
 use crate::say::put_hex;
 use crate::say::put_reading;
 use crate::say::put_refusal;
@@ -18,11 +20,13 @@ use crate::words::word_count;
 use accepting::accept::Accepts;
 use answers::Written;
 use chars::place::part;
+use check::same;
 use clause::list::Checked;
-use compare::text::Compared;
 use decimal::put::put_byte;
 use decimal::put::put_bytes;
 use decimal::put::put_number;
+use keys::compared::Compared;
+use register::plain::fit_held;
 use table::lookup::Looked;
 use word::packed::Worded;
 ghost use Prim.Native.Nat.{_≤_};
@@ -49,6 +53,9 @@ fn no_question(out: &mut [u8]) -> usize {
 }
 
 fn answer_words(line: &[u8], texts: &mut [u8], out: &mut [u8]) -> usize {
+    if is_register(line) {
+        return of_register(line, texts, out);
+    }
     let Decoded::End(end) = decode(word(line, 1), texts, 0) else {
         return no_question(out);
     };
@@ -59,6 +66,30 @@ fn answer_words(line: &[u8], texts: &mut [u8], out: &mut [u8]) -> usize {
         Kind::Texts(asked) => of_two_texts(asked, word(line, 2), texts, end, out),
         Kind::Unknown => no_question(out),
     }
+}
+
+fn is_register(line: &[u8]) -> bool {
+    if word_count(line) != 4 {
+        return false;
+    }
+    same(word(line, 0), b"register")
+}
+
+// The version stands behind the tables in the buffer.
+fn of_register(line: &[u8], texts: &mut [u8], out: &mut [u8]) -> usize {
+    let listed = read_entries(word(line, 1));
+    if !listed.said {
+        return no_question(out);
+    }
+    let held = listed.held;
+    let Decoded::End(end) = decode(word(line, 2), texts, 0) else {
+        return no_question(out);
+    };
+    let Decoded::End(second_end) = decode(word(line, 3), texts, end) else {
+        return no_question(out);
+    };
+    let fit = fit_held(held, part(texts, 0, end), part(texts, end, second_end));
+    put_fit(out, fit)
 }
 
 fn of_text(asked: OfText, text: &[u8], out: &mut [u8]) -> usize {

@@ -2,6 +2,7 @@
 mod answer;
 mod decode;
 mod kinds;
+mod listed;
 mod say;
 mod words;
 

@@ -2,6 +2,8 @@
 use answers::Refusal;
 use answers::Written;
 use chars::place::byte_at;
+use choice::fit::Fit;
+use choice::lowest::Lowest;
 use decimal::put::put_byte;
 use decimal::put::put_bytes;
 use decimal::put::put_number;
@@ -167,5 +169,29 @@ pub(crate) fn put_written(out: &mut [u8], written: Written, buffer: &[u8]) -> us
             let end = put_refusal(out, 0, b"no ", refusal);
             put_buffer(out, end, buffer)
         }
+    }
+}
+
+fn put_lowest(out: &mut [u8], lowest: Lowest) -> usize {
+    match lowest {
+        Lowest::Nothing => put_bytes(out, 0, b"none"),
+        Lowest::One(id) => {
+            let digits = put_bytes(out, 0, b"one ");
+            put_number(out, digits, id as u64)
+        }
+        Lowest::Two(first, second) => {
+            let digits = put_bytes(out, 0, b"two ");
+            let blank = put_number(out, digits, first as u64);
+            let next = put_byte(out, blank, b' ');
+            put_number(out, next, second as u64)
+        }
+    }
+}
+
+pub(crate) fn put_fit(out: &mut [u8], fit: Fit) -> usize {
+    match fit {
+        Fit::By(lowest) => put_lowest(out, lowest),
+        Fit::Register(refusal) => put_refusal(out, 0, b"register ", refusal),
+        Fit::Version(refusal) => put_refusal(out, 0, b"version ", refusal),
     }
 }

@@ -1,0 +1,24 @@
+-- `boundary::said::of_lowest` meets its contract: each answer has its numbers.
+-- Assumes nothing.
+use borrow.Author.Needs.{needs}
+use Rattle.boundary.proofs.said.of_lowest.Statement.{statement}
+use Rattle.boundary.proofs.said.of_lowest.Tie as tie
+
+pub of-lowest-spec : {M : Type 1} → statement M
+of-lowest-spec =
+    tie.close
+    (tie.spec
+    (λ c. search needs)
+    (λ c κs. search needs)
+    (λ c. search needs)
+    (λ c. search needs)
+    (λ c κs. search needs)
+    (λ c. search needs)
+    (λ c. search needs)
+    (λ c. search needs)
+    (λ c. search needs)
+    (λ c. search needs)
+    (λ c κs. search needs)
+    (λ c. cc)
+    (λ c. cc)
+    (λ c. cc))

@@ -1,0 +1,15 @@
+-- `knappulf::knappulf_register` meets its contract: the answer is told.
+-- Assumes nothing.
+use borrow.Author.Needs.{needs}
+use Rattle.boundary.proofs.Tells.{told-as}
+use Rattle.knappulf.proofs.knappulf_register.Statement.{statement}
+use Rattle.knappulf.proofs.knappulf_register.Tie as tie
+
+pub knappulf-register-spec : {M : Type 1} → statement M
+knappulf-register-spec =
+    tie.close
+    (tie.spec
+    (λ c κs. search needs)
+    (λ c κs. search needs)
+    (λ c κs. search needs)
+    (λ c. told-as (c .tell .ensures) cc))
