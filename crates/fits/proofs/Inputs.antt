@@ -2,26 +2,23 @@
 -- have one answer. A register's line of up to 65,536 bytes is told whole.
 -- Assumes nothing.
 use mathlib.Core.Path.{_≡_, refl, ap}
-use mathlib.Core.Bool.{Bool, true, false}
+use mathlib.Core.Logic.{inl, inr}
 use mathlib.Core.List.{List, [], _∷_, map}
 use Prim.Native.Nat.{ℕ, _≤_, _<_}
 use native.Mathlib.Decide.{decLt}
 use native.Mathlib.Omega.{arith}
-use lib.Dec.{eqb, ltb}
 use lib.ListN.{length}
-use Rattle.answers.specs.declared.Refusal.{Refusal}
 use Rattle.answers.specs.Written.{refusal}
-use Rattle.chars.specs.Pick.{pick}
 use Rattle.order.specs.All.{All}
 use Rattle.reading.specs.Reading.{longest}
 use Rattle.version.specs.Refusals.{Row}
 use Rattle.version.proofs.Exactly.{version-refused-exactly}
 use Rattle.entries.specs.declared.entry.Entry.{Entry}
-use Rattle.choice.specs.declared.rule.Rule.the-variants.{Zero, Taken, Outside}
-use Rattle.choice.specs.declared.fit.Fit.{Fit}
-use Rattle.choice.specs.declared.fit.Fit.the-variants.{By, Register, Version}
-use Rattle.choice.specs.Guilt.{guiltBy, tableGuilt, firstOf}
-use Rattle.choice.specs.Fit.{most, unless, fitOf}
+use Rattle.choice.specs.declared.fit.Fit.the-variants.{Version}
+use Rattle.choice.specs.Fit.{fitOf}
+use Rattle.choice.specs.Cases.{Sound}
+use Rattle.choice.proofs.Answers.{refused-in-its-case}
+use Rattle.choice.proofs.Exactly.{sound-or-fault, version-refused-exactly as of-version}
 use Rattle.lines.specs.Run.{Shown, AllShown}
 use Rattle.fits.specs.Answer.{fitLine}
 
@@ -29,49 +26,20 @@ use Rattle.fits.specs.Answer.{fitLine}
 abbrev pub longestLine : ℕ
 longestLine = 65536
 
--- an answer that names no version
-abbrev Nameless : Fit → Type 0
-Nameless (By lowest) = ⊥
-Nameless (Register x) = Unit {0}
-Nameless (Version x) = Unit {0}
-
-one-line : (f : Fit) → Nameless f → (v w : List ℕ) → fitLine f v ≡ fitLine f w
-one-line (By lowest) n v w = absurd n
-one-line (Register x) n v w = refl
-one-line (Version x) n v w = refl
-
-either : (b : Bool) (f g : Fit) → Nameless f → Nameless g → Nameless (pick b f g)
-either true f g n m = n
-either false f g n m = m
-
-unless-nameless : (x : Refusal) (f : Fit) → Nameless f → Nameless (unless x f)
-unless-nameless x f n = either (eqb (x .number) 0) f (Register x) n tt
-
 module _ (es : List Entry) (tables : List ℕ) where
   abbrev pub lineFor : List ℕ → List ℕ
   lineFor version = fitLine (fitOf es tables version) version
 
-  -- the one answer to versions that are too long
-  abbrev longFit : Fit
-  longFit =
-      pick (ltb most (length es)) (Register (refusal 30 most))
-      (unless (firstOf (guiltBy Zero tables es) es)
-      (unless (firstOf (guiltBy Taken tables es) es)
-      (unless (firstOf (guiltBy Outside tables es) es) (unless (firstOf (tableGuilt tables es) es) (Version (refusal 8 longest))))))
-
-  long-nameless : Nameless longFit
-  long-nameless =
-      either (ltb most (length es)) (Register (refusal 30 most)) _ tt
-      (unless-nameless (firstOf (guiltBy Zero tables es) es) _
-      (unless-nameless (firstOf (guiltBy Taken tables es) es) _
-      (unless-nameless (firstOf (guiltBy Outside tables es) es) _ (unless-nameless (firstOf (tableGuilt tables es) es) (Version (refusal 8 longest)) tt))))
-
-  long-fit : (version : List ℕ) → longest < length version → fitOf es tables version ≡ longFit
-  unfolding fitOf
-  long-fit version long = rw (version-refused-exactly version 8 longest .1 (Row.too-long long))
+  -- versions that are too long have one answer: the register's refusal, or their own
+  own : (version : List ℕ) → longest < length version → Sound es tables → fitOf es tables version ≡ Version (refusal 8 longest)
+  own version long sound = of-version es tables version (refusal 8 longest) .1 (sound, version-refused-exactly version 8 longest .1 (Row.too-long long))
 
   long-answer : (v w : List ℕ) → longest < length v → longest < length w → lineFor v ≡ lineFor w
-  long-answer v w h g = rw (long-fit v h, long-fit w g) (one-line longFit long-nameless v w)
+  long-answer v w h g =
+      elim (sound-or-fault es tables) [
+        | inl sound ↦ rw (own v h sound, own w g sound)
+        | inr fault ↦ rw (refused-in-its-case es tables v _ _ (fault .2), refused-in-its-case es tables w _ _ (fault .2))
+      ]
 
   pub shown-answer : (line shown : List ℕ) → Shown longestLine line shown → lineFor shown ≡ lineFor line
   shown-answer line shown s =
