@@ -16,11 +16,11 @@ use Rattle.decimal.specs.Digits.{decimal}
 use Rattle.decimal.specs.Put.{farthest, onward, Wrote, Put}
 use Rattle.decimal.proofs.Figures.{twenty-digits}
 
-sets-append : (s t l : List ℕ) (i : ℕ) → sets (sets l i s) (i + length s) t ≡ sets l i (s ++ t)
+pub sets-append : (s t l : List ℕ) (i : ℕ) → sets (sets l i s) (i + length s) t ≡ sets l i (s ++ t)
 sets-append [] t l i = rw add-zero
 sets-append (a ∷ s) t l i = rw (add-suc i (length s), ← suc-add i (length s)) (sets-append s t (set l i a) (suc i))
 
-sets-past : (s l : List ℕ) (i : ℕ) → length l ≤ i → sets l i s ≡ l
+pub sets-past : (s l : List ℕ) (i : ℕ) → length l ≤ i → sets l i s ≡ l
 sets-past [] l i h = refl
 sets-past (a ∷ s) l i h = rw (set-out l i a h) (sets-past s l (suc i) (omega arith))
 

@@ -1,0 +1,3 @@
+pub mod Reader
+pub mod Events
+pub mod Lent
