@@ -1,4 +1,2 @@
 pub mod Rows
 pub mod Shorts
-pub mod Tells
-pub mod Words

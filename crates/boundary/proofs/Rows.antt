@@ -21,9 +21,11 @@ use Rattle.reading.specs.declared.text.Verdict.the-variants.{Accepted, Refused}
 use Rattle.reading.specs.Segment.{segmentOf, segmentBytes}
 use Rattle.decimal.specs.Put.{Wrote}
 use Rattle.decimal.proofs.Puts.{then}
+use Rattle.lumps.specs.declared.answer.Says.{Says}
+use Rattle.lumps.specs.declared.answer.Says.the-variants.{Nothing, Given}
 use Rattle.boundary.specs.declared.pair.Pair.{Pair}
 use Rattle.boundary.specs.Pair.{segmentPair}
-use Rattle.boundary.specs.Fields.{spanAt, parts, row, segmentRow, segmentRows, fieldsOf, fieldsBy}
+use Rattle.boundary.specs.Fields.{spanAt, parts, row, segmentRow, segmentRows, fieldsOf, fieldsBy, fieldsSaid}
 
 -- one number more
 pub number-next : (s l₀ l : List ℕ) (at i : ℕ) → i < length s → sets l (at + i) (drop i s) ≡ sets l₀ at s → sets (set l (at + i) (getD s i 0)) (at + (i + 1)) (drop (i + 1) s) ≡ sets l₀ at s
@@ -78,3 +80,10 @@ fields-accepted s v old new x e f = rw e f
 
 pub fields-refused : (s : List ℕ) (v : Version) (old : List ℕ) (x : Verdict) (refusal : Refusal) → x ≡ Refused refusal → old ≡ fieldsBy x s v old
 fields-refused s v old x refusal e = rw e
+
+-- and by whether there is one
+pub said-given : (s : List ℕ) (v : Version) (old new : List ℕ) (says : Says) (x : Verdict) → says ≡ Given x → new ≡ fieldsBy x s v old → new ≡ fieldsSaid says s v old
+said-given s v old new says x e f = rw e f
+
+pub said-nothing : (s : List ℕ) (v : Version) (old : List ℕ) (says : Says) → says ≡ Nothing → old ≡ fieldsSaid says s v old
+said-nothing s v old says e = rw e

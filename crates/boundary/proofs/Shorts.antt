@@ -10,14 +10,11 @@ use Rattle.chars.specs.Class.{front}
 use Rattle.decimal.specs.Parse.{valueFrom, numberOf}
 use Rattle.reading.specs.declared.short.Short.{Short}
 use Rattle.reading.specs.declared.short.ShortReading.{ShortReading}
-use Rattle.reading.specs.declared.text.Verdict.the-variants.{Accepted}
 use Rattle.reading.specs.Segment.{segmentOf, segmentBytes}
 use Rattle.reading.specs.Reading.{patternAs, versionOf}
 use Rattle.reading.specs.Short.{shortOf, wholeVersion}
 use Rattle.reading.proofs.ShortRead.{short-said}
-use Rattle.boundary.specs.declared.said.Said.{Said}
 use Rattle.boundary.specs.Fields.{spanAt, parts, segmentRow, segmentRows, fieldsOf, fieldsBy}
-use Rattle.boundary.specs.Said.{ofVerdict}
 
 -- the numbers that are there, over zeros
 pub short-filled : (v : Short) (new : List ℕ) → new ≡ sets (replicate 89 0) 0 (parts (wholeVersion v) ++ (v .first ∷ v .second ∷ v .third ∷ v .fourth ∷ [])) → new ≡ fieldsOf [] (wholeVersion v)
@@ -36,10 +33,3 @@ module _ (s : List ℕ) (r : ShortReading) (e : r ≡ shortOf s) (f : r .found �
   pub short-version : (old new : List ℕ) → new ≡ fieldsOf [] (wholeVersion (r .short)) → new ≡ fieldsBy (versionOf s .verdict) s (versionOf s .version) old
   unfolding versionOf
   short-version old new g = rw (short-said false s r e f) (g ∙ text-apart s (r .short))
-
-  pub told-pattern : (x : Said) → x ≡ ofVerdict Accepted false → x ≡ ofVerdict (patternAs true s .verdict) (patternAs true s .wildcard)
-  told-pattern x g = rw (short-said true s r e f) g
-
-  pub told-version : (x : Said) → x ≡ ofVerdict Accepted false → x ≡ ofVerdict (versionOf s .verdict) false
-  unfolding versionOf
-  told-version x g = rw (short-said false s r e f) g

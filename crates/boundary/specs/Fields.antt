@@ -11,6 +11,8 @@ use Rattle.reading.specs.declared.segment.Segment.{Segment}
 use Rattle.reading.specs.declared.segment.Segment.the-variants.{Number, Text}
 use Rattle.reading.specs.declared.text.Verdict.{Verdict}
 use Rattle.reading.specs.declared.text.Verdict.the-variants.{Accepted, Refused}
+use Rattle.lumps.specs.declared.answer.Says.{Says}
+use Rattle.lumps.specs.declared.answer.Says.the-variants.{Nothing, Given}
 use Rattle.parts.specs.Fields.{noSpan}
 use Rattle.reading.specs.Reading.{versionOf}
 use Rattle.reading.specs.Segment.{segmentOf, segmentBytes}
@@ -53,6 +55,11 @@ fieldsOf s v = parts v ++ (v .release .numbers ++ segmentRows s (v .local) 0 16)
 abbrev pub fieldsBy : Verdict → List ℕ → Version → List ℕ → List ℕ
 fieldsBy Accepted s v old = fieldsOf s v
 fieldsBy (Refused x) s v old = old
+
+-- and so does a reader of lumps that has nothing to say
+abbrev pub fieldsSaid : Says → List ℕ → Version → List ℕ → List ℕ
+fieldsSaid Nothing s v old = old
+fieldsSaid (Given verdict) s v old = fieldsBy verdict s v old
 
 -- where the text segment with that index begins; 0 where there is none
 abbrev pub startOf : Segment → Span → ℕ

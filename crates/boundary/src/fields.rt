@@ -2,6 +2,7 @@
 use crate::pair::part_pair;
 use crate::pair::pre_pair;
 use crate::pair::segment_pair;
+use lumps::answer::Says;
 use parts::fields::Local;
 use parts::fields::Span;
 use parts::fields::Version;
@@ -15,7 +16,7 @@ ghost use Prim.Native.Nat.{_+_, _≤_};
 ghost use lib.ListN.{length};
 ghost use lib.Seq.{sets};
 ghost use Rattle.reading.specs.Short.{wholeVersion};
-ghost use Rattle.boundary.specs.Fields.{spanAt, parts, segmentRow, segmentRows, fieldsOf, fieldsBy};
+ghost use Rattle.boundary.specs.Fields.{spanAt, parts, segmentRow, segmentRows, fieldsOf, fieldsBy, fieldsSaid};
 
 // Writes the numbers from a place on.
 fn put_numbers(fields: &mut [u64], at: usize, numbers: &[u64])
@@ -138,5 +139,14 @@ pub fn put_accepted(fields: &mut [u64; 89], text: &[u8], verdict: Verdict, versi
 {
     if let Verdict::Accepted = verdict {
         put_fields(fields, text, version);
+    }
+}
+
+// A reader of lumps that has nothing to say leaves them too.
+pub fn put_said(fields: &mut [u64; 89], text: &[u8], says: Says, version: Version)
+    ensures { λ _. ⌜ now (fields .exit) ≡ fieldsSaid says (now (text .entry)) version (now (fields .entry)) ⌝ }
+{
+    if let Says::Given(verdict) = says {
+        put_accepted(fields, text, verdict, version);
     }
 }

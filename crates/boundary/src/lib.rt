@@ -1,4 +1,3 @@
-// How answers and fields are laid out for a caller in C: numbers in lent arrays.
+// How the fields of a version are laid out for a caller in C: numbers in a lent array.
 pub mod fields;
 pub mod pair;
-pub mod said;

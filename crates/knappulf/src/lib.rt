@@ -2,21 +2,21 @@
 use boundary::fields::put_accepted;
 use boundary::fields::put_short;
 use boundary::fields::span_at;
-use boundary::said::of_accepts;
-use boundary::said::of_checked;
-use boundary::said::of_compared;
-use boundary::said::of_fit;
-use boundary::said::of_looked;
-use boundary::said::of_verdict;
-use boundary::said::of_worded;
-use boundary::said::of_written;
-use boundary::said::tell;
 use reading::segment::Segment;
 use reading::segment::segment_bytes;
 use reading::segment::segment_of;
 use reading::short::read_short;
 use reading::text::Verdict;
 use register::plain::fit_numbers;
+use told::said::of_accepts;
+use told::said::of_checked;
+use told::said::of_compared;
+use told::said::of_fit;
+use told::said::of_looked;
+use told::said::of_verdict;
+use told::said::of_worded;
+use told::said::of_written;
+use told::said::tell;
 ghost use mathlib.Core.Path.{_≡_};
 ghost use mathlib.Core.Bool.{false};
 ghost use lib.ListN.{length};
@@ -32,7 +32,7 @@ ghost use Rattle.table.specs.Lookup.{looked};
 ghost use Rattle.entries.specs.Held.{entriesOf};
 ghost use Rattle.choice.specs.Fit.{fitOf};
 ghost use Rattle.boundary.specs.Fields.{fieldsBy, segmentStart};
-ghost use Rattle.boundary.specs.Said.{Told, ofVerdict, ofWritten, ofCompared, ofWorded, ofChecked, ofAccepts, ofLooked, ofFit};
+ghost use Rattle.told.specs.Said.{Told, ofVerdict, ofWritten, ofCompared, ofWorded, ofChecked, ofAccepts, ofLooked, ofFit};
 
 // The fields of a version. A refused text leaves them as they were.
 #[no_mangle]

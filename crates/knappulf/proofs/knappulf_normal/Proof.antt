@@ -1,7 +1,7 @@
 -- `knappulf::knappulf_normal` meets its contract: the answer is told.
 -- Assumes nothing.
 use borrow.Author.Needs.{needs}
-use Rattle.boundary.proofs.Tells.{told-as}
+use Rattle.told.proofs.Tells.{told-as}
 use Rattle.knappulf.proofs.knappulf_normal.Statement.{statement}
 use Rattle.knappulf.proofs.knappulf_normal.Tie as tie
 

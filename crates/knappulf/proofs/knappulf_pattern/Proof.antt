@@ -1,8 +1,9 @@
 -- `knappulf::knappulf_pattern` meets its contract: the verdict is told, and decides on the fields.
 -- Assumes nothing.
 use borrow.Author.Needs.{needs}
-use Rattle.boundary.proofs.Shorts.{short-pattern, told-pattern}
-use Rattle.boundary.proofs.Tells.{told-as}
+use Rattle.boundary.proofs.Shorts.{short-pattern}
+use Rattle.told.proofs.Shorts.{told-pattern}
+use Rattle.told.proofs.Tells.{told-as}
 use Rattle.knappulf.proofs.knappulf_pattern.Statement.{statement}
 use Rattle.knappulf.proofs.knappulf_pattern.Tie as tie
 

@@ -6,11 +6,12 @@ use choice::fit::Fit;
 use choice::lowest::Lowest;
 use clause::list::Checked;
 use keys::compared::Compared;
+use lumps::answer::Says;
 use reading::text::Verdict;
 use table::lookup::Looked;
 use word::packed::Worded;
 ghost use mathlib.Core.Path.{_≡_};
-ghost use Rattle.boundary.specs.Said.{Told, answered, refusedOf, ofVerdict, ofWritten, ofCompared, ofWorded, ofChecked, ofAccepts, ofLooked, ofLowest, ofFit};
+ghost use Rattle.told.specs.Said.{Told, answered, refusedOf, ofVerdict, ofSays, ofWritten, ofCompared, ofWorded, ofChecked, ofAccepts, ofLooked, ofLowest, ofFit};
 
 // A refusal's number and place, and which of the two texts it is about; or a value, with 0 for the rest.
 pub struct Said {
@@ -48,6 +49,21 @@ pub fn of_verdict(verdict: Verdict, wildcard: bool) -> Said
     match verdict {
         Verdict::Accepted => answer(wildcard as u64),
         Verdict::Refused(refusal) => refused(1, refusal),
+    }
+}
+
+// While a reader of lumps has nothing to say, the number is none of a refusal.
+pub fn of_says(says: Says) -> Said
+    ensures { λ r. ⌜ r ≡ ofSays says ⌝ }
+{
+    match says {
+        Says::Nothing => Said {
+            number: 255,
+            value: 0,
+            place: 0,
+            of: 0,
+        },
+        Says::Given(verdict) => of_verdict(verdict, false),
     }
 }
 

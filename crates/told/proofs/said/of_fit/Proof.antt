@@ -1,8 +1,8 @@
--- `boundary::said::of_fit` meets its contract: each answer has its numbers.
+-- `told::said::of_fit` meets its contract: each answer has its numbers.
 -- Assumes nothing.
 use borrow.Author.Needs.{needs}
-use Rattle.boundary.proofs.said.of_fit.Statement.{statement}
-use Rattle.boundary.proofs.said.of_fit.Tie as tie
+use Rattle.told.proofs.said.of_fit.Statement.{statement}
+use Rattle.told.proofs.said.of_fit.Tie as tie
 
 pub of-fit-spec : {M : Type 1} → statement M
 of-fit-spec =

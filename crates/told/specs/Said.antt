@@ -1,6 +1,6 @@
 -- Answers in numbers: a call returns the refusal's number, 0 for none, and leaves three numbers in the lent answer: the value, the place and which text.
 use mathlib.Core.Path.{_≡_}
-use mathlib.Core.Bool.{Bool, true, false}
+use mathlib.Core.Bool.{Bool, false}
 use mathlib.Core.List.{List, [], _∷_}
 use Prim.Native.Nat.{ℕ, _+_, _*_}
 use Rattle.answers.specs.declared.Refusal.{Refusal}
@@ -8,6 +8,8 @@ use Rattle.answers.specs.declared.Written.{Written}
 use Rattle.answers.specs.declared.Written.the-variants.{Length, Refused as NotWritten}
 use Rattle.reading.specs.declared.text.Verdict.{Verdict}
 use Rattle.reading.specs.declared.text.Verdict.the-variants.{Accepted, Refused as NotRead}
+use Rattle.lumps.specs.declared.answer.Says.{Says}
+use Rattle.lumps.specs.declared.answer.Says.the-variants.{Nothing, Given}
 use Rattle.keys.specs.declared.compared.Compared.{Compared}
 use Rattle.keys.specs.declared.compared.Compared.the-variants.{Less, Equal, Greater, First, Second}
 use Rattle.word.specs.declared.packed.Worded.{Worded}
@@ -19,10 +21,11 @@ use Rattle.accepting.specs.declared.accept.Accepts.the-variants.{Yes as Accepte
 use Rattle.table.specs.declared.lookup.Looked.{Looked}
 use Rattle.table.specs.declared.lookup.Looked.the-variants.{Yes as Held, No as Not-held, Table as OfTable, Version as OfCandidate}
 use Rattle.choice.specs.declared.lowest.Lowest.{Lowest}
-use Rattle.choice.specs.declared.lowest.Lowest.the-variants.{Nothing, One, Two}
+use Rattle.choice.specs.declared.lowest.Lowest.the-variants.{Nothing as NoTable, One, Two}
 use Rattle.choice.specs.declared.fit.Fit.{Fit}
 use Rattle.choice.specs.declared.fit.Fit.the-variants.{By, Register as OfRegister, Version as OfUnit}
-use Rattle.boundary.specs.declared.said.Said.{Said}
+use Rattle.lumps.specs.Lent.{flag}
+use Rattle.told.specs.declared.said.Said.{Said}
 
 abbrev pub answered : ℕ → Said
 answered n = record { number = 0; value = n; place = 0; of = 0 }
@@ -31,14 +34,18 @@ answered n = record { number = 0; value = n; place = 0; of = 0 }
 abbrev pub refusedOf : ℕ → Refusal → Said
 refusedOf which x = record { number = x .number; value = 0; place = x .place; of = which }
 
-abbrev pub flag : Bool → ℕ
-flag false = 0
-flag true = 1
-
 -- the value is whether a wildcard follows
 abbrev pub ofVerdict : Verdict → Bool → Said
 ofVerdict Accepted wildcard = answered (flag wildcard)
 ofVerdict (NotRead x) wildcard = refusedOf 1 x
+
+-- that a reader of lumps has nothing to say yet is no refusal: its number is none of theirs
+abbrev pub notYet : Said
+notYet = record { number = 255; value = 0; place = 0; of = 0 }
+
+abbrev pub ofSays : Says → Said
+ofSays Nothing = notYet
+ofSays (Given verdict) = ofVerdict verdict false
 
 -- the length
 abbrev pub ofWritten : Written → Said
@@ -77,7 +84,7 @@ ofLooked (OfCandidate x) = refusedOf 2 x
 
 -- the lowest identifier and, 65,536 times, the second lowest; 0 for each that there is not: no identifier of a register that is not refused is 0
 abbrev pub ofLowest : Lowest → Said
-ofLowest Nothing = answered 0
+ofLowest NoTable = answered 0
 ofLowest (One id) = answered id
 ofLowest (Two first second) = answered (first + 65536 * second)
 

@@ -1,8 +1,8 @@
--- `boundary::said::of_written` meets its contract: each answer has its numbers.
+-- `told::said::of_written` meets its contract: each answer has its numbers.
 -- Assumes nothing.
 use borrow.Author.Needs.{needs}
-use Rattle.boundary.proofs.said.of_written.Statement.{statement}
-use Rattle.boundary.proofs.said.of_written.Tie as tie
+use Rattle.told.proofs.said.of_written.Statement.{statement}
+use Rattle.told.proofs.said.of_written.Tie as tie
 
 pub of-written-spec : {M : Type 1} → statement M
 of-written-spec =

@@ -1,8 +1,8 @@
--- `boundary::said::of_looked` meets its contract: each answer has its numbers.
+-- `told::said::of_looked` meets its contract: each answer has its numbers.
 -- Assumes nothing.
 use borrow.Author.Needs.{needs}
-use Rattle.boundary.proofs.said.of_looked.Statement.{statement}
-use Rattle.boundary.proofs.said.of_looked.Tie as tie
+use Rattle.told.proofs.said.of_looked.Statement.{statement}
+use Rattle.told.proofs.said.of_looked.Tie as tie
 
 pub of-looked-spec : {M : Type 1} → statement M
 of-looked-spec =
