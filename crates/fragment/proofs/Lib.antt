@@ -1,0 +1,4 @@
+pub mod Answers
+pub mod Takes
+pub mod Bytes
+pub mod Lending
