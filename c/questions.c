@@ -8,9 +8,10 @@
 #include <string.h>
 
 _Static_assert(sizeof(knappulf_version) == 89 * sizeof(uint64_t), "the fields are 89 numbers");
+_Static_assert(sizeof(knappulf_reader) == 1027, "a reader is 1,027 bytes");
 _Static_assert(sizeof(knappulf_answer) == 3 * sizeof(uint64_t), "an answer is three numbers");
 
-enum { LONGEST_LINE = 65536, MOST_ROOM = 16384, MOST_WORDS = 4, MOST_ENTRIES = 70 };
+enum { LONGEST_LINE = 65536, MOST_ROOM = 16384, MOST_WORDS = LONGEST_LINE + 1, MOST_ENTRIES = 70 };
 
 typedef struct bytes {
     uint8_t at[LONGEST_LINE / 2];
@@ -278,11 +279,66 @@ static int ask_register(char *word, const bytes *buffer, const bytes *version)
     return 1;
 }
 
+/* Whether reading the text that is held gives the same refusal, or none. */
+static int held_alike(const knappulf_reader *reader, uint8_t number, const knappulf_answer *answer)
+{
+    knappulf_version version;
+    knappulf_answer held;
+    return knappulf_read(reader->bytes, knappulf_reader_held(reader), &version, &held) == number && held.place == answer->place;
+}
+
+/* An event, and what the reader says after it. */
+static void ask_event(knappulf_reader *reader, const char *word)
+{
+    static bytes lump;
+    knappulf_version version;
+    knappulf_answer answer;
+    if (strcmp(word, "end") == 0)
+        knappulf_reader_end(reader);
+    else if (strcmp(word, "reset") == 0)
+        knappulf_reader_reset(reader);
+    else if (decode(word, &lump))
+        knappulf_reader_take(reader, lump.at, lump.length);
+    uint8_t number = knappulf_reader_verdict(reader, &version, &answer);
+    if (number == KNAPPULF_NO_VERDICT)
+        printf("none");
+    else if (!held_alike(reader, number, &answer))
+        printf("the text that is held is another");
+    else if (number)
+        say_refusal("no", number, &answer);
+    else {
+        printf("ok");
+        say_fields(&version);
+    }
+}
+
+static int is_event(const char *word)
+{
+    static bytes lump;
+    return strcmp(word, "end") == 0 || strcmp(word, "reset") == 0 || decode(word, &lump);
+}
+
+/* Nothing is said of a line with a word that is no event. */
+static int ask_fragments(char *words[], size_t count)
+{
+    knappulf_reader reader = KNAPPULF_READER_NEW;
+    for (size_t i = 1; i < count; i++)
+        if (!is_event(words[i]))
+            return 0;
+    for (size_t i = 1; i < count; i++) {
+        printf(i > 1 ? " | " : "");
+        ask_event(&reader, words[i]);
+    }
+    return count > 1;
+}
+
 static int answer_line(char *line)
 {
     static bytes first, second;
-    char *words[MOST_WORDS];
+    static char *words[MOST_WORDS];
     size_t count = cut(line, ' ', words, MOST_WORDS);
+    if (strcmp(words[0], "fragments") == 0)
+        return ask_fragments(words, count);
     if (count == 4 && strcmp(words[0], "register") == 0)
         return decode(words[2], &first) && decode(words[3], &second) && ask_register(words[1], &first, &second);
     if (count < 2 || !decode(words[1], &first))

@@ -1,5 +1,5 @@
-/* Knappulf: versions in the style of PEP 440, lists of version clauses, the range tables compiled from them, and
- * registers of such tables.
+/* Knappulf: versions in the style of PEP 440, whole or in lumps, lists of version clauses, the range tables compiled
+ * from them, and registers of such tables.
  *
  * Link target/staticlib/libknappulf.a (`rt staticlib knappulf` makes it; x86-64 Linux). It needs memcpy and memset of
  * the C library and nothing else. Each function returns on every input, allocates nothing, keeps nothing between two
@@ -9,11 +9,11 @@
  * - a pointer is not null, also where its length is 0 (knappulf_bytes makes one of any pointer);
  * - a length is the true one, and at most PTRDIFF_MAX. Any such length is answered: a text or list of more than 1,024
  *   bytes is refused (number 8), and a buffer may be as long as it likes;
- * - what a call writes (fields, start, buffer, answer) overlaps nothing else that is passed to the same call. Texts
+ * - what a call writes (fields, start, buffer, reader, answer) overlaps nothing else that is passed to the same call. Texts
  *   may be one and the same;
  * - bytes are bytes: a text needs no zero at its end, and is not changed.
  *
- * What every function but knappulf_segment returns is a refusal's number (KNAPPULF_..., below), and 0 for none; it
+ * What every function with an `answer` returns is a refusal's number (KNAPPULF_..., below), and 0 for none; it
  * leaves its answer in `answer`, whatever stood there before. A refused call leaves fields and buffers as they were.
  */
 #ifndef KNAPPULF_H
@@ -122,6 +122,40 @@ uint8_t knappulf_compile(const uint8_t *list, size_t list_length, uint8_t *buffe
 
 /* The value is 1 where the table holds the version, else 0. */
 uint8_t knappulf_lookup(const uint8_t *table, size_t table_length, const uint8_t *version, size_t version_length, knappulf_answer *answer);
+
+/* A reader of a version that comes in lumps. Its bytes are the library's own: pass its address, and copy or move it as
+ * any struct. All zeros are a new reader (KNAPPULF_READER_NEW); no bytes are a wrong one. */
+typedef struct knappulf_reader {
+    uint8_t bytes[1027];
+} knappulf_reader;
+
+#define KNAPPULF_READER_NEW {{0}}
+
+/* Takes the next lump, of any length, also none: in time that goes by its length. Returns 1 where there is a verdict, so
+ * that no further byte counts until a reset, and else 0. There is one from the end mark on, and as soon as the 1,025th
+ * byte has come. */
+uint8_t knappulf_reader_take(knappulf_reader *reader, const uint8_t *lump, size_t lump_length);
+
+/* The end mark: nothing of the text is missing. */
+void knappulf_reader_end(knappulf_reader *reader);
+
+/* Makes the reader a new one. */
+void knappulf_reader_reset(knappulf_reader *reader);
+
+/* What the reader says: as knappulf_read of the whole text that came, however it was cut. Returns KNAPPULF_NO_VERDICT
+ * while there is none, which is no refusal, and leaves the fields as they were, as it does for a refused text. Places
+ * count from the text's first byte. */
+uint8_t knappulf_reader_verdict(const knappulf_reader *reader, knappulf_version *fields, knappulf_answer *answer);
+
+#define KNAPPULF_NO_VERDICT 255
+
+/* How long the text is that came, for the functions on this page that take one: it lies at reader->bytes, and segments
+ * of its label are parts of it. It has no byte before the verdict, and one that is too long has 1,025, so that each of
+ * them refuses it as it would the text that came:
+ *
+ *     knappulf_normal(reader->bytes, knappulf_reader_held(reader), buffer, room, &answer);
+ */
+size_t knappulf_reader_held(const knappulf_reader *reader);
 
 /* An entry of a register: an identifier from 1 to 65535, and where its table lies in the buffer. */
 typedef struct knappulf_entry {

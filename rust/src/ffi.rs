@@ -35,7 +35,13 @@ pub struct Fields {
     pub segments: [SegmentField; 16],
 }
 
-const _: () = assert!(size_of::<Fields>() == 89 * 8 && size_of::<Answer>() == 3 * 8);
+#[repr(C)]
+#[derive(Clone)]
+pub struct Lumps {
+    pub bytes: [u8; 1027],
+}
+
+const _: () = assert!(size_of::<Fields>() == 89 * 8 && size_of::<Answer>() == 3 * 8 && size_of::<Lumps>() == 1027);
 
 pub type Reader = unsafe extern "C" fn(*const u8, usize, *mut Fields, *mut Answer) -> u8;
 pub type Writer = unsafe extern "C" fn(*const u8, usize, *mut u8, usize, *mut Answer) -> u8;
@@ -53,6 +59,11 @@ extern "C" {
     pub fn knappulf_accepts(list: *const u8, list_length: usize, version: *const u8, version_length: usize, answer: *mut Answer) -> u8;
     pub fn knappulf_compile(list: *const u8, length: usize, buffer: *mut u8, room: usize, answer: *mut Answer) -> u8;
     pub fn knappulf_lookup(table: *const u8, table_length: usize, version: *const u8, version_length: usize, answer: *mut Answer) -> u8;
+    pub fn knappulf_reader_take(reader: *mut Lumps, lump: *const u8, length: usize) -> u8;
+    pub fn knappulf_reader_end(reader: *mut Lumps);
+    pub fn knappulf_reader_reset(reader: *mut Lumps);
+    pub fn knappulf_reader_verdict(reader: *const Lumps, fields: *mut Fields, answer: *mut Answer) -> u8;
+    pub fn knappulf_reader_held(reader: *const Lumps) -> usize;
     pub fn knappulf_register(
         ids: *const u16,
         ids_length: usize,

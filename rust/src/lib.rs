@@ -1,8 +1,9 @@
-//! Versions in the style of PEP 440, lists of version clauses, the range tables compiled from them, and registers of
-//! such tables.
+//! Versions in the style of PEP 440, whole or in lumps, lists of version clauses, the range tables compiled from them,
+//! and registers of such tables.
 //!
 //! The work is done by a library written in Rattle, whose every function is proved to meet its contract; this crate
-//! hands it slices and gives its answers types. Nothing is allocated, and texts are bytes.
+//! hands it slices and gives its answers types. Nothing is allocated, and texts are bytes. With the feature `std`
+//! [`Fragments`] is a `std::io::Write`.
 //!
 //! ```
 //! # fn main() -> Result<(), knappulf::Refused> {
@@ -13,11 +14,16 @@
 //! ```
 #![no_std]
 
+#[cfg(feature = "std")]
+extern crate std;
+
 mod ffi;
+mod fragments;
 mod refusal;
 mod register;
 mod version;
 
+pub use fragments::Fragments;
 pub use refusal::{Input, Refusal, Refused};
 pub use register::{Entry, Fit, fit};
 pub use version::{PreKind, Segment, Version};

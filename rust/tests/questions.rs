@@ -1,5 +1,5 @@
 //! Asks the questions that the gate replays (`crates/replay/stdin`), and compares with the answers there.
-use knappulf::{Entry, Fit, Input, PreKind, Refusal, Refused, Segment, Version};
+use knappulf::{Entry, Fit, Fragments, Input, PreKind, Refusal, Refused, Segment, Version};
 use std::fmt::{Display, Write};
 use std::fs;
 
@@ -97,6 +97,30 @@ fn register(words: &[&str]) -> String {
     )
 }
 
+fn said(fragments: &Fragments) -> String {
+    let text = fragments.text();
+    match fragments.verdict() {
+        None => "none".into(),
+        Some(verdict) => verdict.map_or_else(no, |version| format!("ok {}", fields(text, version))),
+    }
+}
+
+/// Each lump is written, and each verdict is the held text's own.
+fn fragments(events: &[&str]) -> String {
+    let mut fragments = Fragments::new();
+    let said = events.iter().map(|event| {
+        match *event {
+            "end" => fragments.end(),
+            "reset" => fragments.reset(),
+            lump => std::io::Write::write_all(&mut fragments, &bytes(lump)).expect("every lump is taken"),
+        }
+        let said = said(&fragments);
+        assert!(said == "none" || said == answer("read", fragments.text(), ""), "{events:?}");
+        said
+    });
+    joined(said, " | ")
+}
+
 fn lines(file: &str) -> Vec<String> {
     let folder = option_env!("CARGO_MANIFEST_DIR").unwrap_or("rust");
     let path = format!("{folder}/../crates/replay/{file}");
@@ -114,6 +138,7 @@ fn the_questions_that_the_gate_replays() {
         let words: Vec<&str> = question.split(' ').collect();
         let said = match words[0] {
             "register" => register(&words),
+            "fragments" => fragments(&words[1..]),
             kind => answer(kind, &bytes(words[1]), words.get(2).unwrap_or(&"")),
         };
         assert_eq!(&said, expected, "{question}");

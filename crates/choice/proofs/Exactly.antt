@@ -117,6 +117,14 @@ module _ (es : List Entry) (buffer : List ℕ) where
   without-fault none (inl s) = s
   without-fault none (inr f) = absurd (none (f .0) (f .1) (f .2))
 
+  -- versions that are refused alike have one answer: the register's refusal, or theirs
+  pub refused-alike : (v w : List ℕ) (x : Refusal) → versionOf v .verdict ≡ Refused x → versionOf w .verdict ≡ Refused x → fitOf es buffer v ≡ fitOf es buffer w
+  refused-alike v w x e f =
+      elim sound-or-fault [
+        | inl sound ↦ version-refused-exactly es buffer v x .1 (sound, e) ∙ sym (version-refused-exactly es buffer w x .1 (sound, f))
+        | inr fault ↦ refused-in-its-case es buffer v _ _ (fault .2) ∙ sym (refused-in-its-case es buffer w _ _ (fault .2))
+      ]
+
   -- and never both
   pub sound-exactly : Sound es buffer ↔ ((n p : ℕ) → Fault es buffer n p → ⊥)
   sound-exactly = (not-both, λ none. without-fault none sound-or-fault)
