@@ -3,6 +3,8 @@ use crate::decode::Decoded;
 use crate::decode::Natural;
 use crate::decode::decode;
 use crate::decode::read_natural;
+use crate::events::answer_events;
+use crate::events::are_events;
 use crate::kinds::Kind;
 use crate::kinds::OfNumber;
 use crate::kinds::OfText;
@@ -34,6 +36,9 @@ ghost use lib.ListN.{length};
 
 pub(crate) const LONGEST_LINE: usize = 65536;
 
+// Behind the word `fragments` and a blank.
+const FIRST_EVENT: usize = 10;
+
 // The longest buffer that a question may lend.
 const LARGEST_ROOM: usize = 16384;
 
@@ -56,6 +61,13 @@ fn answer_words(line: &[u8], texts: &mut [u8], out: &mut [u8]) -> usize {
     if is_register(line) {
         return of_register(line, texts, out);
     }
+    if same(word(line, 0), b"fragments") {
+        return of_fragments(line, texts, out);
+    }
+    answer_kind(line, texts, out)
+}
+
+fn answer_kind(line: &[u8], texts: &mut [u8], out: &mut [u8]) -> usize {
     let Decoded::End(end) = decode(word(line, 1), texts, 0) else {
         return no_question(out);
     };
@@ -90,6 +102,13 @@ fn of_register(line: &[u8], texts: &mut [u8], out: &mut [u8]) -> usize {
     };
     let fit = fit_held(held, part(texts, 0, end), part(texts, end, second_end));
     put_fit(out, fit)
+}
+
+fn of_fragments(line: &[u8], texts: &mut [u8], out: &mut [u8]) -> usize {
+    if are_events(line, FIRST_EVENT, texts) {
+        return answer_events(line, FIRST_EVENT, texts, out);
+    }
+    no_question(out)
 }
 
 fn of_text(asked: OfText, text: &[u8], out: &mut [u8]) -> usize {

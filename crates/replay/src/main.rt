@@ -1,6 +1,7 @@
 // The conformance program: questions on standard input, a line each, and an answer line to each on standard output.
 mod answer;
 mod decode;
+mod events;
 mod kinds;
 mod listed;
 mod say;
