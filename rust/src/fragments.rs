@@ -7,9 +7,8 @@ const NO_VERDICT: u8 = 255;
 
 /// A reader of a version that comes in lumps of any length, off a bus for instance.
 ///
-/// At the end mark it says what [`read`](crate::read) says of the whole text, wherever that was cut. Before it there is
-/// no verdict, except that the 1,025th byte is refused at once (number 8). A verdict stays until a reset, whatever comes
-/// after it.
+/// At the end mark it says what [`read`](crate::read) says of the uncut text. Until then there is no verdict; only a
+/// text that is too long has one (number 8), as soon as a 1,025th byte comes. Nothing but a reset takes a verdict back.
 ///
 /// ```
 /// let mut fragments = knappulf::Fragments::new();
