@@ -1,6 +1,7 @@
 -- `told::said::of_compared` meets its contract: each answer has its numbers.
 -- Assumes nothing.
 use borrow.Author.Needs.{needs}
+use Rattle.told.proofs.Tells.{second-told}
 use Rattle.told.proofs.said.of_compared.Statement.{statement}
 use Rattle.told.proofs.said.of_compared.Tie as tie
 
@@ -22,4 +23,4 @@ of-compared-spec =
     (λ c. cc)
     (λ c. cc)
     (λ c. cc)
-    (λ c. cc))
+    (λ c. search second-told))

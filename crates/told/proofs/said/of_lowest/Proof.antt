@@ -1,6 +1,7 @@
 -- `told::said::of_lowest` meets its contract: each answer has its numbers.
 -- Assumes nothing.
 use borrow.Author.Needs.{needs}
+use Rattle.told.proofs.Tells.{two-told}
 use Rattle.told.proofs.said.of_lowest.Statement.{statement}
 use Rattle.told.proofs.said.of_lowest.Tie as tie
 
@@ -21,4 +22,4 @@ of-lowest-spec =
     (λ c κs. search needs)
     (λ c. cc)
     (λ c. cc)
-    (λ c. cc))
+    (λ c. search two-told))
