@@ -1,1 +1,3 @@
-pub mod Written
+pub mod Refusal
+pub mod Printed
+pub mod YesNo

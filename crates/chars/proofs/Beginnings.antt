@@ -1,7 +1,7 @@
 -- Laws of lower case, beginnings and spellings: one step of the comparison, and what a beginning's length says of a choice.
 -- Assumes nothing.
 use mathlib.Core.Path.{_≡_, refl, _∙_, sym, ap}
-use mathlib.Core.Bool.{Bool, true, false}
+use mathlib.Core.Bool.{Bool, true, false, cond}
 use mathlib.Core.List.{List, [], _∷_}
 use Prim.Native.Nat.{ℕ, suc, _+_, _≤_, _<_}
 use native.Mathlib.Numerals.{add-one}
@@ -9,7 +9,6 @@ use native.Mathlib.Omega.{arith}
 use lib.ListN.{length, getD, drop, drop-of-length-le}
 use lib.Seq.{drop-cons}
 use borrow.Author.Tests.{eq-eqb, ne-eqb, le-leb, lt-leb}
-use Rattle.chars.specs.Pick.{pick}
 use Rattle.chars.specs.declared.spelling.PreKind.{PreKind}
 use Rattle.chars.specs.declared.spelling.PreSpelling.{PreSpelling}
 use Rattle.chars.specs.declared.spelling.PreSpelling.the-variants.{Found as PreFound}
@@ -64,7 +63,7 @@ module _ (x : ℕ) (w s : List ℕ) (n : ℕ) (e : n ≡ beginningOf (x ∷ w) s
   unfolding beginningOf
   begun h = go (startsWith (x ∷ w) s) refl e
     where
-      go : (t : Bool) → startsWith (x ∷ w) s ≡ t → n ≡ pick t (length (x ∷ w)) 0 → (startsWith (x ∷ w) s ≡ true) × (n ≡ length (x ∷ w))
+      go : (t : Bool) → startsWith (x ∷ w) s ≡ t → n ≡ cond t (length (x ∷ w)) 0 → (startsWith (x ∷ w) s ≡ true) × (n ≡ length (x ∷ w))
       go true q f = (q, f)
       go false q f = absurd (h f)
 
@@ -72,21 +71,21 @@ module _ (x : ℕ) (w s : List ℕ) (n : ℕ) (e : n ≡ beginningOf (x ∷ w) s
   unfolding beginningOf
   not-begun z = go (startsWith (x ∷ w) s) refl e
     where
-      go : (t : Bool) → startsWith (x ∷ w) s ≡ t → n ≡ pick t (length (x ∷ w)) 0 → startsWith (x ∷ w) s ≡ false
+      go : (t : Bool) → startsWith (x ∷ w) s ≡ t → n ≡ cond t (length (x ∷ w)) 0 → startsWith (x ∷ w) s ≡ false
       go true q f = absurd (omega arith)
       go false q f = q
 
   -- a choice by the beginning: f makes the answer of the length
-  pub chosen : {A : Type 0} (f : ℕ → A) (o : A) → (n ≡ 0 → ⊥) → f n ≡ pick (startsWith (x ∷ w) s) (f (length (x ∷ w))) o
+  pub chosen : {A : Type 0} (f : ℕ → A) (o : A) → (n ≡ 0 → ⊥) → f n ≡ cond (startsWith (x ∷ w) s) (f (length (x ∷ w))) o
   chosen f o h = rw (begun h .0, begun h .1)
 
-  pub word-not : {A : Type 0} {y o : A} (a : A) → n ≡ 0 → y ≡ o → y ≡ pick (startsWith (x ∷ w) s) a o
+  pub word-not : {A : Type 0} {y o : A} (a : A) → n ≡ 0 → y ≡ o → y ≡ cond (startsWith (x ∷ w) s) a o
   word-not a z g = rw (not-begun z) g
 
 pub pre-found : (x : ℕ) (w s : List ℕ) (n : ℕ) (k : PreKind) (o : PreSpelling) → n ≡ beginningOf (x ∷ w) s → (n ≡ 0 → ⊥) →
-    PreFound k n ≡ pick (startsWith (x ∷ w) s) (PreFound k (length (x ∷ w))) o
+    PreFound k n ≡ cond (startsWith (x ∷ w) s) (PreFound k (length (x ∷ w))) o
 pre-found x w s n k o e h = chosen x w s n e (PreFound k) o h
 
 pub found : (x : ℕ) (w s : List ℕ) (n : ℕ) (o : Spelling) → n ≡ beginningOf (x ∷ w) s → (n ≡ 0 → ⊥) →
-    Found n ≡ pick (startsWith (x ∷ w) s) (Found (length (x ∷ w))) o
+    Found n ≡ cond (startsWith (x ∷ w) s) (Found (length (x ∷ w))) o
 found x w s n o e h = chosen x w s n e Found o h

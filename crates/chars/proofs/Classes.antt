@@ -1,7 +1,7 @@
 -- Laws of the classes and of runs: one step of a run, and the ways out of the loop that counts it.
 -- Assumes nothing.
 use mathlib.Core.Path.{_≡_, refl, _∙_, sym}
-use mathlib.Core.Bool.{Bool, true, false}
+use mathlib.Core.Bool.{Bool, true, false, cond}
 use mathlib.Core.List.{List}
 use Prim.Native.Nat.{ℕ, _+_, _≤_, _<_}
 use native.Mathlib.Numerals.{add-one}
@@ -10,7 +10,6 @@ use lib.Dec.{leb}
 use lib.ListN.{length, getD, drop, drop-of-length-le}
 use lib.Seq.{drop-cons}
 use borrow.Author.Tests.{le-leb, lt-leb}
-use Rattle.chars.specs.Pick.{pick}
 use Rattle.chars.specs.Class.{classOf, between, front}
 
 -- one step of a run, at place i of the text
@@ -27,7 +26,7 @@ module _ (p : ℕ → Bool) (s : List ℕ) (i : ℕ) where
   unfolding front
   run-step h e = rw (drop-cons s i 0 h, e, add-one i) (omega arith)
 
-neither : (t : Bool) → pick t false false ≡ false
+neither : (t : Bool) → cond t false false ≡ false
 neither true = refl
 neither false = refl
 

@@ -4,3 +4,4 @@ pub mod Ranged
 pub mod Classes
 pub mod Beginnings
 pub mod Parts
+pub mod SameBytes

@@ -1,39 +1,38 @@
--- The class of a byte as `ranged` finds it: at each of the 256 bytes the class by the rule, in one computed test.
+-- The class of a byte as `class_by_ranges` finds it: at each of the 256 bytes the class by the rule, in one computed test.
 -- Assumes nothing.
 use mathlib.Core.Path.{_≡_, _∙_}
-use mathlib.Core.Bool.{Bool}
+use mathlib.Core.Bool.{Bool, cond}
 use mathlib.Core.List.{List, replicate}
 use Prim.Native.Nat.{ℕ, _<_}
 use Prim.Native.Char.{code}
 use native.Mathlib.Omega.{arith}
 use lib.Dec.{T, ltb, leb, eqb, eqb→eq}
 use lib.ListN.{length-replicate}
-use Rattle.chars.specs.Pick.{pick}
 use Rattle.chars.specs.Class.{classOf, other, blank, separator, digit, letter}
 use Rattle.chars.proofs.Table.{every, at}
 use Rattle.chars.proofs.Cases.{yes-lt, no-lt, no-le}
 
--- the tests of `low_ranged`, in its order
+-- the tests of `low_class_by_ranges`, in its order
 abbrev pub lowRanged : ℕ → ℕ
 lowRanged b =
-    pick (eqb b (code " ")) blank
-    (pick (eqb b (code ".")) separator
-    (pick (eqb b (code "-")) separator
-    (pick (ltb 13 b) other
-    (pick (ltb b 9) other
-    (pick (eqb b 11) other
+    cond (eqb b (code " ")) blank
+    (cond (eqb b (code ".")) separator
+    (cond (eqb b (code "-")) separator
+    (cond (ltb 13 b) other
+    (cond (ltb b 9) other
+    (cond (eqb b 11) other
     blank)))))
 
--- those of `ranged`
+-- those of `class_by_ranges`
 abbrev pub byRanges : ℕ → ℕ
 byRanges b =
-    pick (ltb (code "z") b) other
-    (pick (leb (code "a") b) letter
-    (pick (ltb b (code "0")) (lowRanged b)
-    (pick (leb b (code "9")) digit
-    (pick (ltb b (code "A")) other
-    (pick (leb b (code "Z")) letter
-    (pick (eqb b (code "_")) separator
+    cond (ltb (code "z") b) other
+    (cond (leb (code "a") b) letter
+    (cond (ltb b (code "0")) (lowRanged b)
+    (cond (leb b (code "9")) digit
+    (cond (ltb b (code "A")) other
+    (cond (leb b (code "Z")) letter
+    (cond (eqb b (code "_")) separator
     other))))))
 
 same : ℕ → ℕ → Bool

@@ -1,26 +1,25 @@
 -- A table's rule, proved at all of its entries by one test that antt computes from entry to entry.
 -- Assumes nothing.
 use mathlib.Core.Path.{_∙_, subst, sym}
-use mathlib.Core.Bool.{Bool, true, false}
+use mathlib.Core.Bool.{Bool, true, false, cond}
 use mathlib.Core.List.{List, [], _∷_}
 use Prim.Native.Nat.{ℕ, zero, suc, _+_, _<_}
 use native.Mathlib.Nat.{add-zero, zero-add, add-suc, suc-add, le-of-suc-le-suc, not-suc-le-zero}
 use lib.Dec.{T}
 use lib.ListN.{length, getD}
-use Rattle.chars.specs.Pick.{pick}
 
-pub both-left : (a b : Bool) → T (pick a b false) → T a
+pub both-left : (a b : Bool) → T (cond a b false) → T a
 both-left true b t = tt
 both-left false b t = t
 
-pub both-right : (a b : Bool) → T (pick a b false) → T b
+pub both-right : (a b : Bool) → T (cond a b false) → T b
 both-right true b t = t
 both-right false b t = absurd t
 
 -- the test passes at each entry, given its place counted from i
 abbrev pub every : (ℕ → ℕ → Bool) → ℕ → List ℕ → Bool
 every test i [] = true
-every test i (x ∷ xs) = pick (test i x) (every test (suc i) xs) false
+every test i (x ∷ xs) = cond (test i x) (every test (suc i) xs) false
 
 from : (test : ℕ → ℕ → Bool) (xs : List ℕ) (i : ℕ) → T (every test i xs) → (k : ℕ) → k < length xs → T (test (i + k) (getD xs k 0))
 from test [] i t k h = absurd (not-suc-le-zero h)

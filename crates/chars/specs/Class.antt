@@ -1,12 +1,11 @@
 -- The class of a byte by the byte ranges, and runs of bytes by a test of each.
 use mathlib.Core.Path.{_≡_}
-use mathlib.Core.Bool.{Bool, true, false}
+use mathlib.Core.Bool.{Bool, true, false, cond}
 use mathlib.Core.List.{List, [], _∷_}
 use Prim.Native.Nat.{ℕ, suc, _*_, _≤_}
 use Prim.Native.Char.{code}
 use lib.Dec.{leb, eqb}
 use lib.ListN.{length}
-use Rattle.chars.specs.Pick.{pick}
 
 abbrev pub other : ℕ
 other = 0
@@ -24,23 +23,23 @@ abbrev pub letter : ℕ
 letter = 4
 
 abbrev pub inRange : ℕ → ℕ → ℕ → Bool
-inRange lo hi b = pick (leb lo b) (leb b hi) false
+inRange lo hi b = cond (leb lo b) (leb b hi) false
 
 abbrev pub isDigit : ℕ → Bool
 isDigit b = inRange (code "0") (code "9") b
 
 abbrev pub isLetter : ℕ → Bool
-isLetter b = pick (inRange (code "A") (code "Z") b) true (inRange (code "a") (code "z") b)
+isLetter b = cond (inRange (code "A") (code "Z") b) true (inRange (code "a") (code "z") b)
 
 abbrev pub isSeparator : ℕ → Bool
-isSeparator b = pick (eqb b (code ".")) true (pick (eqb b (code "_")) true (eqb b (code "-")))
+isSeparator b = cond (eqb b (code ".")) true (cond (eqb b (code "_")) true (eqb b (code "-")))
 
 -- a space, a tab, a line feed, a form feed and a carriage return; not byte 11
 abbrev pub isBlank : ℕ → Bool
-isBlank b = pick (eqb b 32) true (pick (eqb b 9) true (pick (eqb b 10) true (pick (eqb b 12) true (eqb b 13))))
+isBlank b = cond (eqb b 32) true (cond (eqb b 9) true (cond (eqb b 10) true (cond (eqb b 12) true (eqb b 13))))
 
 unfoldable pub classOf : ℕ → ℕ
-classOf b = pick (isDigit b) digit (pick (isLetter b) letter (pick (isSeparator b) separator (pick (isBlank b) blank other)))
+classOf b = cond (isDigit b) digit (cond (isLetter b) letter (cond (isSeparator b) separator (cond (isBlank b) blank other)))
 
 -- r is the byte's class; `seen` says in one bound that byte 0, which stands for the end of a text, has class 0
 pub record Classed (b r : ℕ) : Type 0 where
@@ -54,7 +53,7 @@ between lo hi b = inRange lo hi (classOf b)
 -- how many bytes at the front of s pass the test
 unfoldable pub front : (ℕ → Bool) → List ℕ → ℕ
 front p [] = 0
-front p (b ∷ s) = pick (p b) (suc (front p s)) 0
+front p (b ∷ s) = cond (p b) (suc (front p s)) 0
 
 pub record Counted (p : ℕ → Bool) (s : List ℕ) (r : ℕ) : Type 0 where
   pub is : r ≡ front p s

@@ -1,6 +1,6 @@
-pub mod Pick
 pub mod Text
 pub mod Class
 pub mod Place
+pub mod Same
 pub mod Case
 pub mod Spelling

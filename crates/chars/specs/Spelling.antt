@@ -1,9 +1,9 @@
 -- The spellings of the optional parts, in the order in which they are tried.
 use mathlib.Core.Path.{_≡_}
+use mathlib.Core.Bool.{cond}
 use mathlib.Core.List.{List}
 use Prim.Native.Nat.{ℕ, _≤_}
 use lib.ListN.{length}
-use Rattle.chars.specs.Pick.{pick}
 use Prim.Native.String.{String}
 use Rattle.chars.specs.Text.{ascii}
 use Rattle.chars.specs.Case.{startsWith}
@@ -16,7 +16,7 @@ use Rattle.chars.specs.declared.spelling.Spelling.the-variants.{Found, M
 
 -- the kind and the length of a word that the text begins with; else whatever is tried next
 abbrev pub tried : String → PreKind → List ℕ → PreSpelling → PreSpelling
-tried word kind s next = pick (startsWith (ascii word) s) (PreFound kind (length (ascii word))) next
+tried word kind s next = cond (startsWith (ascii word) s) (PreFound kind (length (ascii word))) next
 
 unfoldable pub shortPreSpelling : List ℕ → PreSpelling
 shortPreSpelling s = tried "rc" Rc s (tried "a" Alpha s (tried "b" Beta s (tried "c" Rc s PreMissing)))
@@ -27,7 +27,7 @@ preSpelling s =
 
 -- the same for a part that has no kinds
 abbrev pub triedPlain : String → List ℕ → Spelling → Spelling
-triedPlain word s next = pick (startsWith (ascii word) s) (Found (length (ascii word))) next
+triedPlain word s next = cond (startsWith (ascii word) s) (Found (length (ascii word))) next
 
 unfoldable pub postSpelling : List ℕ → Spelling
 postSpelling s = triedPlain "post" s (triedPlain "rev" s (triedPlain "r" s Missing))

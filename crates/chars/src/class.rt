@@ -272,7 +272,7 @@ const CLASSES: [u8; 256] = [
     0,
 ];
 
-// By the table. It is laid on the stack at each use, so that a loop over a text asks `ranged` instead.
+// By the table. It is laid on the stack at each use, so that a loop over a text asks `class_by_ranges` instead.
 pub fn class_of(b: u8) -> u8
     ensures { λ r. ⌜ Classed b r ⌝ }
 {
@@ -281,7 +281,7 @@ pub fn class_of(b: u8) -> u8
 }
 
 // The same by the ranges of bytes, those of small letters first: the longest runs are theirs.
-pub fn ranged(b: u8) -> u8
+pub fn class_by_ranges(b: u8) -> u8
     ensures { λ r. ⌜ Classed b r ⌝ }
 {
     if b'z' < b {
@@ -291,7 +291,7 @@ pub fn ranged(b: u8) -> u8
         return LETTER;
     }
     if b < b'0' {
-        return low_ranged(b);
+        return low_class_by_ranges(b);
     }
     if b <= b'9' {
         return DIGIT;
@@ -309,7 +309,7 @@ pub fn ranged(b: u8) -> u8
 }
 
 // Of the bytes below the digits.
-fn low_ranged(b: u8) -> u8
+fn low_class_by_ranges(b: u8) -> u8
     requires { ⌜ b < 48 ⌝ }
     ensures { λ r. ⌜ Classed b r ⌝ }
 {
@@ -340,7 +340,7 @@ pub fn run(s: &[u8], low: u8, high: u8) -> usize
 {
     let mut i = 0;
     while i < s.len() {
-        let class = ranged(s[i]);
+        let class = class_by_ranges(s[i]);
         if class < low {
             return i;
         }

@@ -2,4 +2,5 @@
 pub mod case;
 pub mod class;
 pub mod place;
+pub mod same;
 pub mod spelling;

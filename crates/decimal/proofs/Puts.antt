@@ -10,8 +10,9 @@ use lib.Dec.{leb, ltb}
 use lib.ListN.{length, length-append, set}
 use lib.Seq.{sets, length-sets, sets-eq, set-out}
 use borrow.Author.Tests.{leb-true, leb-false, lt-ltb, le-ltb}
-use Rattle.answers.specs.declared.Written.the-variants.{Length, Refused}
-use Rattle.answers.specs.Written.{refusal, answer, filled, Printed}
+use Rattle.answers.specs.declared.Measured.the-variants.{Length, Refused}
+use Rattle.answers.specs.Refusal.{refusal}
+use Rattle.answers.specs.Printed.{answer, filled, Printed}
 use Rattle.decimal.specs.Digits.{decimal}
 use Rattle.decimal.specs.Put.{farthest, onward, Wrote, Put}
 use Rattle.decimal.proofs.Figures.{twenty-digits}

@@ -1,7 +1,7 @@
 -- Laws of the values of digits, and the ways of the functions that read them.
 -- Assumes nothing.
 use mathlib.Core.Path.{_≡_, refl, _∙_, sym}
-use mathlib.Core.Bool.{Bool, true, false}
+use mathlib.Core.Bool.{Bool, true, false, cond}
 use mathlib.Core.List.{List, [], _∷_}
 use Prim.Native.Nat.{ℕ, suc, _+_, _*_, _-_, _^_, _≤_, _<_}
 use native.Mathlib.Nat.{le-trans, le-refl, zero-add}
@@ -12,7 +12,6 @@ use lib.ListN.{length, getD, drop, take, drop-of-length-le}
 use lib.Seq.{drop-cons}
 use borrow.Author.Tests.{le-leb, lt-leb, lt-ltb, le-ltb, leb-true, leb-false, eqb-true, eq-eqb, ne-eqb}
 use Rattle.chars.specs.Class.{classOf, digit, between, front}
-use Rattle.chars.specs.Pick.{pick}
 use Rattle.chars.proofs.Classes.{run-stop, run-step}
 use Rattle.chars.proofs.Cases.{no-eq, yes-is}
 use Rattle.decimal.specs.declared.parse.Number.the-variants.{Value, TooBig}
@@ -96,7 +95,7 @@ other-class : (b r : ℕ) → r ≡ classOf b → (r ≡ 3 → ⊥) → between 
 unfolding between
 other-class b r e h = rw (← e) (go (leb 3 r) (leb r 3) refl refl)
   where
-    go : (x y : Bool) → leb 3 r ≡ x → leb r 3 ≡ y → pick x y false ≡ false
+    go : (x y : Bool) → leb 3 r ≡ x → leb r 3 ≡ y → cond x y false ≡ false
     go true true p q = absurd (h (omega (arith, leb-true 3 r p, leb-true r 3 q)))
     go true false p q = refl
     go false y p q = refl
@@ -108,7 +107,7 @@ leadingFrom v s = valueFrom v (take (digitsOf s) s)
 pub counted-within : (x : Leading) (v i n : ℕ) → x ≡ counted v i → i ≤ n → leadingLength x ≤ n
 counted-within x v i n e h = rw e (go (eqb i 0))
   where
-    go : (b : Bool) → leadingLength (pick b Absent (Read v i)) ≤ n
+    go : (b : Bool) → leadingLength (cond b Absent (Read v i)) ≤ n
     go true = omega arith
     go false = h
 

@@ -6,6 +6,9 @@ ghost use lib.Dec.{leb};
 ghost use Rattle.chars.specs.Class.{Counted};
 ghost use Rattle.decimal.specs.Parse.{isZero, Digit, Led, numberOf, counted};
 
+// The largest number of 64 bits.
+pub const LARGEST: u64 = 18446744073709551615;
+
 pub enum Number {
     Value(u64),
     TooBig,
@@ -96,7 +99,7 @@ pub fn leading_number(rest: &[u8]) -> Leading
     let mut i = leading_zeros(rest);
     while i < rest.len() {
         let b = rest[i];
-        if class::ranged(b) != class::DIGIT {
+        if class::class_by_ranges(b) != class::DIGIT {
             return counted(total, i);
         }
         let d = digit(b);

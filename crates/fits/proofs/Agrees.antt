@@ -4,14 +4,14 @@
 use mathlib.Core.Path.{_≡_, ap}
 use mathlib.Core.List.{List}
 use Prim.Native.Nat.{ℕ}
-use Rattle.reading.specs.Reading.{versionOf}
-use Rattle.entries.specs.Held.{entriesIn}
-use Rattle.choice.specs.declared.lowest.Lowest.the-variants.{Nothing}
-use Rattle.choice.specs.Lowest.{lowestFrom}
-use Rattle.choice.specs.Fit.{answered, fitOf}
-use Rattle.shelf.specs.declared.shelf.Shelf.{Shelf}
-use Rattle.shelf.specs.Shelved.{Shelved, acceptors}
-use Rattle.shelf.proofs.Answers.{shelved-fits}
+use Rattle.version_reading.specs.Reading.{versionOf}
+use Rattle.register_entries.specs.Held.{entriesIn}
+use Rattle.register_rules.specs.declared.lowest.Lowest.the-variants.{Nothing}
+use Rattle.register_rules.specs.Lowest.{lowestFrom}
+use Rattle.register_rules.specs.Fit.{answered, fitOf}
+use Rattle.register_lines.specs.declared.shelf.Shelf.{Shelf}
+use Rattle.register_lines.specs.Shelved.{Shelved, acceptors}
+use Rattle.register_lines.proofs.Answers.{shelved-fits}
 use Rattle.fits.specs.Answer.{fitLine}
 
 pub answers-agree : {lines : List (List ℕ)} {tables : List ℕ} {shelf : Shelf} → Shelved lines tables shelf → (version : List ℕ) →

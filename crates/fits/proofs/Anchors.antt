@@ -4,13 +4,13 @@ use mathlib.Core.Path.{_≡_, refl}
 use mathlib.Core.List.{List, [], _∷_, _++_, map}
 use Prim.Native.Nat.{ℕ}
 use Prim.Native.String.{String}
-use Rattle.answers.specs.Written.{refusal}
+use Rattle.answers.specs.Refusal.{refusal}
 use Rattle.chars.specs.Text.{ascii}
 use Rattle.decimal.specs.Digits.{digits, decimal}
 use Rattle.lines.specs.Window.{lineFeed}
-use Rattle.roundtrip.proofs.Extremes.{computed}
-use Rattle.choice.specs.declared.lowest.Lowest.the-variants.{Nothing, One, Two}
-use Rattle.choice.specs.declared.fit.Fit.the-variants.{By, Register, Version}
+use Rattle.version_roundtrip.proofs.Extremes.{computed}
+use Rattle.register_rules.specs.declared.lowest.Lowest.the-variants.{Nothing, One, Two}
+use Rattle.register_rules.specs.declared.fit.Fit.the-variants.{By, Register, Version}
 use Rattle.fits.specs.Answer.{fitLine, entryLine}
 
 abbrev endedLine : String → List ℕ

@@ -12,16 +12,16 @@ use Rattle.decimal.specs.Put.{Wrote, Put}
 use Rattle.decimal.proofs.Figures.{few-digits}
 use Rattle.decimal.proofs.Puts.{then}
 use Rattle.lines.specs.Window.{lineFeed}
-use Rattle.normal.specs.Normal.{normalText}
-use Rattle.roundtrip.proofs.Roundtrip.{normal-longest}
-use Rattle.entries.specs.declared.entry.Entry.{Entry}
-use Rattle.choice.specs.declared.lowest.Lowest.{Lowest}
-use Rattle.choice.specs.declared.lowest.Lowest.the-variants.{Nothing, One, Two}
-use Rattle.choice.specs.declared.fit.Fit.{Fit}
-use Rattle.choice.specs.declared.fit.Fit.the-variants.{By, Register, Version}
-use Rattle.choice.proofs.Exactly.{by-accepted}
-use Rattle.choice.specs.Fit.{most, fitOf}
-use Rattle.say.specs.Text.{refusalLine, normalLine}
+use Rattle.version_normal.specs.Normal.{normalText}
+use Rattle.version_roundtrip.proofs.Roundtrip.{normal-longest}
+use Rattle.register_entries.specs.declared.entry.Entry.{Entry}
+use Rattle.register_rules.specs.declared.lowest.Lowest.{Lowest}
+use Rattle.register_rules.specs.declared.lowest.Lowest.the-variants.{Nothing, One, Two}
+use Rattle.register_rules.specs.declared.fit.Fit.{Fit}
+use Rattle.register_rules.specs.declared.fit.Fit.the-variants.{By, Register, Version}
+use Rattle.register_rules.proofs.Exactly.{by-accepted}
+use Rattle.register_rules.specs.Fit.{most, fitOf}
+use Rattle.answer_lines.specs.Text.{refusalLine, normalLine}
 use Rattle.fits.specs.Answer.{severalText, lowestText, fitLine, longestAnswer}
 
 -- an identifier has at most five digits

@@ -6,12 +6,12 @@ use Prim.Native.Nat.{ℕ, _+_, _≤_}
 use native.Mathlib.Omega.{arith}
 use lib.ListN.{length, length-append}
 use Rattle.lines.specs.declared.window.Window.{Window}
-use Rattle.shelf.specs.declared.shelf.Shelf.{Shelf}
-use Rattle.shelf.specs.declared.shelf.Entered.{Entered}
-use Rattle.shelf.specs.Enter.{emptyShelf, Entering}
-use Rattle.shelf.specs.Shelved.{roomForAll, nothing, one-more}
-use Rattle.shelf.proofs.Kept.{refused-keeps}
-use Rattle.shelf.proofs.Answers.{shelved-refuses}
+use Rattle.register_lines.specs.declared.shelf.Shelf.{Shelf}
+use Rattle.register_lines.specs.declared.shelf.Entered.{Entered}
+use Rattle.register_lines.specs.Enter.{emptyShelf, Entering}
+use Rattle.register_lines.specs.Shelved.{roomForAll, nothing, one-more}
+use Rattle.register_lines.proofs.Kept.{refused-keeps}
+use Rattle.register_lines.proofs.Answers.{shelved-refuses}
 use Rattle.fits.specs.declared.gather.Ending.the-variants.{Versions, Refused, Nothing}
 use Rattle.fits.specs.Gather.{Standing, Gathering}
 

@@ -8,17 +8,17 @@ use Prim.Native.Nat.{ℕ, _≤_, _<_}
 use native.Mathlib.Decide.{decLt}
 use native.Mathlib.Omega.{arith}
 use lib.ListN.{length}
-use Rattle.answers.specs.Written.{refusal}
+use Rattle.answers.specs.Refusal.{refusal}
 use Rattle.order.specs.All.{All}
-use Rattle.reading.specs.Reading.{longest}
+use Rattle.version_reading.specs.Reading.{longest}
 use Rattle.version.specs.Refusals.{Row}
 use Rattle.version.proofs.Exactly.{version-refused-exactly}
-use Rattle.entries.specs.declared.entry.Entry.{Entry}
-use Rattle.choice.specs.declared.fit.Fit.the-variants.{Version}
-use Rattle.choice.specs.Fit.{fitOf}
-use Rattle.choice.specs.Cases.{Sound}
-use Rattle.choice.proofs.Answers.{refused-in-its-case}
-use Rattle.choice.proofs.Exactly.{sound-or-fault, version-refused-exactly as of-version}
+use Rattle.register_entries.specs.declared.entry.Entry.{Entry}
+use Rattle.register_rules.specs.declared.fit.Fit.the-variants.{Version}
+use Rattle.register_rules.specs.Fit.{fitOf}
+use Rattle.register_rules.specs.Cases.{Sound}
+use Rattle.register_rules.proofs.Answers.{refused-in-its-case}
+use Rattle.register_rules.proofs.Exactly.{sound-or-fault, version-refused-exactly as of-version}
 use Rattle.lines.specs.Run.{Shown, AllShown}
 use Rattle.fits.specs.Answer.{fitLine}
 

@@ -4,11 +4,11 @@ use Prim.Native.Nat.{ℕ}
 use Rattle.answers.specs.declared.Refusal.{Refusal}
 use Rattle.chars.specs.Text.{ascii}
 use Rattle.decimal.specs.Digits.{decimal}
-use Rattle.choice.specs.declared.lowest.Lowest.{Lowest}
-use Rattle.choice.specs.declared.lowest.Lowest.the-variants.{Nothing, One, Two}
-use Rattle.choice.specs.declared.fit.Fit.{Fit}
-use Rattle.choice.specs.declared.fit.Fit.the-variants.{By, Register, Version}
-use Rattle.say.specs.Text.{refusalLine, normalLine}
+use Rattle.register_rules.specs.declared.lowest.Lowest.{Lowest}
+use Rattle.register_rules.specs.declared.lowest.Lowest.the-variants.{Nothing, One, Two}
+use Rattle.register_rules.specs.declared.fit.Fit.{Fit}
+use Rattle.register_rules.specs.declared.fit.Fit.the-variants.{By, Register, Version}
+use Rattle.answer_lines.specs.Text.{refusalLine, normalLine}
 
 abbrev pub severalText : ℕ → ℕ → List ℕ
 severalText first second = ascii "several " ++ decimal first ++ ascii " " ++ decimal second

@@ -3,8 +3,8 @@ use mathlib.Core.Path.{_≡_}
 use mathlib.Core.List.{List}
 use Prim.Native.Nat.{ℕ, suc}
 use lib.ListN.{length}
-use Rattle.shelf.specs.declared.shelf.Shelf.{Shelf}
-use Rattle.shelf.specs.Shelved.{Shelved, refusalBehind}
+use Rattle.register_lines.specs.declared.shelf.Shelf.{Shelf}
+use Rattle.register_lines.specs.Shelved.{Shelved, refusalBehind}
 use Rattle.fits.specs.declared.gather.Ending.{Ending}
 use Rattle.fits.specs.declared.gather.Ending.the-variants.{Versions, Refused, Nothing}
 use Rattle.fits.specs.declared.gather.Gathered.{Gathered}

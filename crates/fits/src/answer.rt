@@ -1,18 +1,18 @@
 // The answer lines, put into a buffer.
+use answer_lines::text::put_normal;
+use answer_lines::text::put_refusal;
 use answers::Refusal;
-use choice::fit::Fit;
-use choice::lowest::Lowest;
 use decimal::put::put_byte;
 use decimal::put::put_bytes;
 use decimal::put::put_number;
-use entries::held::Held;
-use register::plain::fit_held;
-use say::text::put_normal;
-use say::text::put_refusal;
+use register_entries::held::Held;
+use register_fit::plain::fit_held;
+use register_rules::fit::Fit;
+use register_rules::lowest::Lowest;
 ghost use Rattle.decimal.specs.Digits.{decimal};
 ghost use Rattle.decimal.specs.Put.{Put};
-ghost use Rattle.entries.specs.Held.{entriesIn};
-ghost use Rattle.choice.specs.Fit.{fitOf};
+ghost use Rattle.register_entries.specs.Held.{entriesIn};
+ghost use Rattle.register_rules.specs.Fit.{fitOf};
 ghost use Rattle.fits.specs.Answer.{severalText, lowestText, fitLine, entryLine, longestAnswer};
 
 // `several 65535 65535 `, the longest normal text, and a line feed.

@@ -4,14 +4,14 @@ use chars::place::part;
 use lines::input::next_line;
 use lines::window::Found;
 use lines::window::Window;
-use shelf::shelf::Entered;
-use shelf::shelf::Shelf;
-use shelf::shelf::empty_shelf;
-use shelf::shelf::enter;
+use register_lines::shelf::Entered;
+use register_lines::shelf::Shelf;
+use register_lines::shelf::empty_shelf;
+use register_lines::shelf::enter;
 ghost use Prim.Native.Nat.{_-_, _≤_};
 ghost use lib.ListN.{length, take, drop};
-ghost use Rattle.shelf.specs.Enter.{Entering};
-ghost use Rattle.shelf.specs.Shelved.{roomForAll};
+ghost use Rattle.register_lines.specs.Enter.{Entering};
+ghost use Rattle.register_lines.specs.Shelved.{roomForAll};
 ghost use Rattle.fits.specs.Gather.{Gathering};
 
 // A longer line is cut, and taken for what is there of it.

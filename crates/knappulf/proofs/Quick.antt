@@ -1,28 +1,28 @@
--- The verdict of a reader of lumps on a short version.
+-- The verdict of a reader of lumps on a plain version.
 -- Assumes nothing.
 use mathlib.Core.Path.{_≡_, ap}
 use mathlib.Core.Bool.{true, false}
 use mathlib.Core.List.{List, []}
 use Prim.Native.Nat.{ℕ}
-use Rattle.reading.specs.declared.short.ShortReading.{ShortReading}
-use Rattle.reading.specs.declared.text.Verdict.the-variants.{Accepted}
-use Rattle.reading.specs.Reading.{versionOf}
-use Rattle.reading.specs.Short.{shortOf, wholeVersion}
-use Rattle.reading.proofs.ShortRead.{short-said}
-use Rattle.lumps.specs.Reader.{given, saidBy}
-use Rattle.lumps.specs.Lent.{readerIn, textIn}
-use Rattle.lumps.proofs.Lending.{accepted-said}
-use Rattle.boundary.specs.Fields.{fieldsOf, fieldsSaid}
-use Rattle.boundary.proofs.Shorts.{short-version}
-use Rattle.told.specs.declared.said.Said.{Said}
-use Rattle.told.specs.Said.{ofVerdict, ofSays}
-use Rattle.told.proofs.Shorts.{told-version}
+use Rattle.version_reading.specs.declared.plain.PlainReading.{PlainReading}
+use Rattle.version_reading.specs.declared.text.Verdict.the-variants.{Accepted}
+use Rattle.version_reading.specs.Reading.{versionOf}
+use Rattle.version_reading.specs.Plain.{plainOf, wholeVersion}
+use Rattle.version_reading.proofs.PlainRead.{plain-said}
+use Rattle.fragment_rules.specs.Reader.{given, saidBy}
+use Rattle.fragment_rules.specs.Lent.{readerIn, textIn}
+use Rattle.fragment_rules.proofs.Lending.{accepted-said}
+use Rattle.boundary_fields.specs.Fields.{fieldsOf, fieldsSaid}
+use Rattle.boundary_fields.proofs.Plains.{plain-version}
+use Rattle.boundary_answers.specs.declared.said.Said.{Said}
+use Rattle.boundary_answers.specs.Said.{ofVerdict, ofSays}
+use Rattle.boundary_answers.proofs.Plains.{told-version}
 
 -- the bytes s of a reader, and the text t that they show
-module _ (s t : List ℕ) (shown : t ≡ textIn s) (r : ShortReading) (e : r ≡ shortOf t) (f : r .found ≡ true) where
+module _ (s t : List ℕ) (shown : t ≡ textIn s) (r : PlainReading) (e : r ≡ plainOf t) (f : r .found ≡ true) where
   reads : versionOf t .verdict ≡ Accepted
   unfolding versionOf
-  reads = ap (λ p. p .verdict) (short-said false t r e f)
+  reads = ap (λ p. p .verdict) (plain-said false t r e f)
 
   says : saidBy (readerIn s) ≡ given (versionOf t)
   says = rw shown (accepted-said s (rw (← shown) reads))
@@ -30,6 +30,6 @@ module _ (s t : List ℕ) (shown : t ≡ textIn s) (r : ShortReading) (e : r ≡
   pub quick-told : (x : Said) → x ≡ ofVerdict Accepted false → x ≡ ofSays (saidBy (readerIn s) .says)
   quick-told x g = rw says (told-version t r e f x g)
 
-  pub quick-fields : (old new : List ℕ) → new ≡ fieldsOf [] (wholeVersion (r .short)) →
+  pub quick-fields : (old new : List ℕ) → new ≡ fieldsOf [] (wholeVersion (r .plain)) →
       new ≡ fieldsSaid (saidBy (readerIn s) .says) (textIn s) (saidBy (readerIn s) .version) old
-  quick-fields old new g = rw (says, ← shown) (short-version t r e f old new g)
+  quick-fields old new g = rw (says, ← shown) (plain-version t r e f old new g)

@@ -1,7 +1,7 @@
 -- Where a text segment lies: the ways of the function that says it, and that its bytes lie there.
 -- Assumes nothing.
 use mathlib.Core.Path.{_≡_, refl, ap}
-use mathlib.Core.Bool.{Bool, true, false}
+use mathlib.Core.Bool.{Bool, true, false, cond}
 use mathlib.Core.List.{List, [], _∷_}
 use Prim.Native.Nat.{ℕ, zero, suc, _-_}
 use native.Mathlib.Omega.{arith}
@@ -9,17 +9,16 @@ use lib.Dec.{leb, ltb}
 use lib.ListN.{length, getD, take, drop}
 use borrow.Author.Tests.{leb-false, ltb-false}
 use Rattle.chars.specs.Class.{front}
-use Rattle.chars.specs.Pick.{pick}
 use Rattle.decimal.specs.Parse.{numberOf, valueFrom}
-use Rattle.parts.specs.declared.fields.Span.{Span}
-use Rattle.reading.specs.declared.segment.Segment.{Segment}
-use Rattle.reading.specs.declared.segment.Segment.the-variants.{Number as IsNumber, Text}
-use Rattle.reading.specs.declared.text.Reading.{Reading}
-use Rattle.parts.specs.Fields.{noSpan}
-use Rattle.reading.specs.Reading.{versionOf}
-use Rattle.reading.specs.Segment.{segmentOf, segmentBytes, segmentText, spanned, textOnly}
-use Rattle.reading.proofs.Segments.{text-missing, text-there}
-use Rattle.boundary.specs.Fields.{spanAt, startOf, segmentStart}
+use Rattle.version_parts.specs.declared.fields.Span.{Span}
+use Rattle.version_reading.specs.declared.segment.Segment.{Segment}
+use Rattle.version_reading.specs.declared.segment.Segment.the-variants.{Number as IsNumber, Text}
+use Rattle.version_reading.specs.declared.text.Reading.{Reading}
+use Rattle.version_parts.specs.Fields.{noSpan}
+use Rattle.version_reading.specs.Reading.{versionOf}
+use Rattle.version_reading.specs.Segment.{segmentOf, segmentBytes, segmentText, spanned, textOnly}
+use Rattle.version_reading.proofs.Segments.{text-missing, text-there}
+use Rattle.boundary_fields.specs.Fields.{spanAt, startOf, segmentStart}
 
 -- as many bytes of a list as a front of it has are that front
 front-of : (n : ℕ) (l : List ℕ) → take (length (take n l)) l ≡ take n l
@@ -46,9 +45,9 @@ part-lies s g = by (segmentOf (spanned s g))
     by Text = front-of (g .end - g .start) (drop (g .start) s)
 
 -- by the tests on the index: whether there is such a segment, and whether it is one of sixteen
-lies : (s : List ℕ) (g : Span) (i : ℕ) (a b c : Bool) → leb 16 i ≡ b → ltb i 16 ≡ c → Lies s (pick a [] (pick b [] (spanned s g))) (pick c g noSpan)
-lies s g i true b c e f = none-lies s (pick c g noSpan)
-lies s g i false true c e f = none-lies s (pick c g noSpan)
+lies : (s : List ℕ) (g : Span) (i : ℕ) (a b c : Bool) → leb 16 i ≡ b → ltb i 16 ≡ c → Lies s (cond a [] (cond b [] (spanned s g))) (cond c g noSpan)
+lies s g i true b c e f = none-lies s (cond c g noSpan)
+lies s g i false true c e f = none-lies s (cond c g noSpan)
 lies s g i false false true e f = part-lies s g
 lies s g i false false false e f = absurd (omega (arith, leb-false 16 i e, ltb-false i 16 f))
 

@@ -7,26 +7,26 @@ use native.Mathlib.Omega.{arith}
 use lib.ListN.{length}
 use borrow.Author.Tests.{le-leb}
 use Rattle.answers.specs.declared.Refusal.{Refusal}
-use Rattle.answers.specs.Written.{refusal}
+use Rattle.answers.specs.Refusal.{refusal}
 use Rattle.order.specs.declared.Order.{Order}
-use Rattle.reading.specs.declared.text.Verdict.{Verdict}
-use Rattle.reading.specs.declared.text.Verdict.the-variants.{Accepted, Refused}
-use Rattle.reading.specs.declared.text.Reading.{Reading}
-use Rattle.reading.specs.Reading.{longest, versionOf}
-use Rattle.reading.specs.Segment.{segmentBytes, segmentText}
-use Rattle.reading.specs.Value.{Value}
-use Rattle.lumps.specs.Lent.{Alike}
-use Rattle.lumps.proofs.Lumps.{long-reading}
-use Rattle.normal.specs.Normal.{answerTo, filledTo, normalText}
-use Rattle.keys.specs.Compared.{judged, compared}
-use Rattle.word.specs.Worded.{wordAnswer}
-use Rattle.clause.specs.List.{Listing, refused, clauses, listOf}
-use Rattle.accepting.specs.Accept.{accepted, judgedBy}
-use Rattle.table.specs.Table.{Tabled, refused as bad, ranges, tableOf}
-use Rattle.table.specs.Lookup.{looked, lookedUp}
-use Rattle.entries.specs.declared.entry.Entry.{Entry}
-use Rattle.choice.specs.Fit.{fitOf}
-use Rattle.choice.proofs.Exactly.{refused-alike}
+use Rattle.version_reading.specs.declared.text.Verdict.{Verdict}
+use Rattle.version_reading.specs.declared.text.Verdict.the-variants.{Accepted, Refused}
+use Rattle.version_reading.specs.declared.text.Reading.{Reading}
+use Rattle.version_reading.specs.Reading.{longest, versionOf}
+use Rattle.version_reading.specs.Segment.{segmentBytes, segmentText}
+use Rattle.version_reading.specs.Value.{Value}
+use Rattle.fragment_rules.specs.Lent.{Alike}
+use Rattle.fragment_rules.proofs.Lumps.{long-reading}
+use Rattle.version_normal.specs.Normal.{answerTo, filledTo, normalText}
+use Rattle.version_order.specs.Compared.{judged, compared}
+use Rattle.version_word.specs.Worded.{wordAnswer}
+use Rattle.list_clauses.specs.List.{Listing, refused, clauses, listOf}
+use Rattle.list_accepting.specs.Accept.{accepted, judgedBy}
+use Rattle.table_reading.specs.Table.{Tabled, refused as bad, ranges, tableOf}
+use Rattle.table_reading.specs.Lookup.{looked, lookedUp}
+use Rattle.register_entries.specs.declared.entry.Entry.{Entry}
+use Rattle.register_rules.specs.Fit.{fitOf}
+use Rattle.register_rules.proofs.Exactly.{refused-alike}
 
 -- a question whose answer to every two texts that are too long is the same
 by-alike : {A : Type 0} {s t : List ℕ} (ask : List ℕ → A) → (longest < length s → longest < length t → ask s ≡ ask t) → Alike s t → ask s ≡ ask t

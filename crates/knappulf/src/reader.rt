@@ -1,18 +1,18 @@
 // The entry points for C that read a text in lumps. The reader is 1,027 bytes that the caller lends: all zeros are a new one.
-use boundary::fields::put_said;
-use boundary::fields::put_short;
-use fragment::lent;
-use reading::short::read_short;
-use reading::text::Verdict;
-use told::said::of_says;
-use told::said::of_verdict;
-use told::said::tell;
+use boundary_answers::said::of_says;
+use boundary_answers::said::of_verdict;
+use boundary_answers::said::tell;
+use boundary_fields::fields::put_plain;
+use boundary_fields::fields::put_said;
+use fragment_reader::lent;
+use version_reading::plain::read_plain;
+use version_reading::text::Verdict;
 ghost use mathlib.Core.Path.{_≡_};
 ghost use lib.ListN.{length};
-ghost use Rattle.lumps.specs.Reader.{fresh, taken, marked, settled, saidBy};
-ghost use Rattle.lumps.specs.Lent.{flag, lent, readerIn, textIn};
-ghost use Rattle.boundary.specs.Fields.{fieldsSaid};
-ghost use Rattle.told.specs.Said.{Told, ofSays};
+ghost use Rattle.fragment_rules.specs.Reader.{fresh, taken, marked, settled, saidBy};
+ghost use Rattle.fragment_rules.specs.Lent.{flag, lent, readerIn, textIn};
+ghost use Rattle.boundary_fields.specs.Fields.{fieldsSaid};
+ghost use Rattle.boundary_answers.specs.Said.{Told, ofSays};
 
 // A lump of any length, also none. Returns 1 where there is a verdict, else 0.
 #[no_mangle]
@@ -49,10 +49,10 @@ pub extern "C" fn knappulf_reader_verdict(
     ensures { λ _. ⌜ now (fields .exit) ≡ fieldsSaid (saidBy (readerIn (now (reader .entry))) .says) (textIn (now (reader .entry))) (saidBy (readerIn (now (reader .entry))) .version) (now (fields .entry)) ⌝ }
 {
     let text = lent::text(reader);
-    let quick = read_short(text);
+    let quick = read_plain(text);
     if quick.found {
-        let short = quick.short;
-        put_short(fields, short);
+        let plain = quick.plain;
+        put_plain(fields, plain);
         return tell(of_verdict(Verdict::Accepted, false), answer);
     }
     let said = lent::said(reader);

@@ -1,7 +1,7 @@
 -- However an input comes in, what is told are its lines.
 -- Assumes nothing.
 use mathlib.Core.Path.{_≡_, refl, sym, _∙_, ap, subst}
-use mathlib.Core.Bool.{Bool, true, false, true≢false}
+use mathlib.Core.Bool.{Bool, true, false, true≢false, cond}
 use mathlib.Core.List.{List, [], _∷_, _++_, append-nil}
 use Prim.Native.Nat.{ℕ, suc, _+_, _-_, _≤_, _<_}
 use native.Mathlib.Decide.{decLt}
@@ -9,7 +9,6 @@ use native.Mathlib.Omega.{arith}
 use lib.ListN.{length, take, drop, length-take, length-append, drop-of-length-le}
 use lib.Seq.{take-nil, take-length, take-take, take-append-seam}
 use borrow.Author.Tests.{lt-ltb, le-ltb}
-use Rattle.chars.specs.Pick.{pick}
 use Rattle.lines.specs.declared.window.Window.{Window}
 use Rattle.lines.specs.declared.window.Found.the-variants.{Line, More, End}
 use Rattle.lines.specs.declared.window.Next.{Next}
@@ -157,11 +156,11 @@ module _ (longest : ℕ) (buffer : List ℕ) (v : Window) (coming : List ℕ) (e
       shown-of = rw (at-front within, whole-text) (shown-by (v .done) over long);
     }
 
-no-line : (done : Bool) (start end : ℕ) → pick done End More ≡ Line start end → ⊥
+no-line : (done : Bool) (start end : ℕ) → cond done End More ≡ Line start end → ⊥
 no-line true start end e = let impossible : start ≡ suc start = cc in omega arith
 no-line false start end e = let impossible : start ≡ suc start = cc in omega arith
 
-at-end : (done : Bool) → pick done End More ≡ End → done ≡ true
+at-end : (done : Bool) → cond done End More ≡ End → done ≡ true
 at-end true e = refl
 at-end false e = cc
 

@@ -1,7 +1,7 @@
 -- The lines of a text that is there in part: up to its first line feed, or with none so far.
 -- Assumes nothing.
 use mathlib.Core.Path.{_≡_, refl, ap}
-use mathlib.Core.Bool.{Bool, true, false}
+use mathlib.Core.Bool.{Bool, true, false, cond}
 use mathlib.Core.List.{List, [], _∷_, _++_}
 use Prim.Native.Nat.{ℕ, zero, suc, _+_, _-_, _≤_, _<_}
 use native.Mathlib.Omega.{arith}
@@ -9,39 +9,38 @@ use lib.Dec.{eqb}
 use lib.ListN.{length, take, drop}
 use lib.Seq.{take-nil, drop-drop}
 use Rattle.bytes.specs.Bytes.{indexAfter, indexOf}
-use Rattle.chars.specs.Pick.{pick}
 use Rattle.lines.specs.Window.{lineFeed, lineLength}
 use Rattle.lines.specs.Run.{joined, linesOf}
 
 -- what stands behind the first line feed
 abbrev pub afterFeed : List ℕ → List ℕ
 afterFeed [] = []
-afterFeed (b ∷ text) = pick (eqb b lineFeed) text (afterFeed text)
+afterFeed (b ∷ text) = cond (eqb b lineFeed) text (afterFeed text)
 
 -- a byte b in front of a text t whose first line feed stands at k, by whether b is one
 module _ (b k : ℕ) (t u : List ℕ) where
   one-whole : (feed : Bool) → indexAfter feed k < suc (length t) →
       (k < length t → linesOf (t ++ u) ≡ take k t ∷ linesOf (drop (k + 1) t ++ u)) →
-      pick feed ([] ∷ linesOf (t ++ u)) (joined b (linesOf (t ++ u)))
+      cond feed ([] ∷ linesOf (t ++ u)) (joined b (linesOf (t ++ u)))
       ≡ take (indexAfter feed k) (b ∷ t) ∷ linesOf (drop (indexAfter feed k + 1) (b ∷ t) ++ u)
   unfolding indexAfter
   one-whole true h more = refl
   one-whole false h more = let next : suc k + 1 ≡ suc (k + 1) = omega arith in rw next (ap (joined b) (more (omega arith)))
 
   one-inside : (feed : Bool) → indexAfter feed k < suc (length t) → (k < length t → afterFeed (t ++ u) ≡ drop (k + 1) t ++ u) →
-      pick feed (t ++ u) (afterFeed (t ++ u)) ≡ drop (indexAfter feed k + 1) (b ∷ t) ++ u
+      cond feed (t ++ u) (afterFeed (t ++ u)) ≡ drop (indexAfter feed k + 1) (b ∷ t) ++ u
   unfolding indexAfter
   one-inside true h more = refl
   one-inside false h more = let next : suc k + 1 ≡ suc (k + 1) = omega arith in rw next (more (omega arith))
 
   one-behind : (feed : Bool) → suc (length t) ≤ indexAfter feed k → (length t ≤ k → afterFeed (t ++ u) ≡ afterFeed u) →
-      pick feed (t ++ u) (afterFeed (t ++ u)) ≡ afterFeed u
+      cond feed (t ++ u) (afterFeed (t ++ u)) ≡ afterFeed u
   unfolding indexAfter
   one-behind true h more = absurd (omega arith)
   one-behind false h more = more (omega arith)
 
   one-open : (lines : List (List ℕ)) (feed : Bool) → suc (length t) ≤ indexAfter feed k → (length t ≤ k → joined b (linesOf (t ++ u)) ≡ lines) →
-      pick feed ([] ∷ linesOf (t ++ u)) (joined b (linesOf (t ++ u))) ≡ lines
+      cond feed ([] ∷ linesOf (t ++ u)) (joined b (linesOf (t ++ u))) ≡ lines
   unfolding indexAfter
   one-open lines true h more = absurd (omega arith)
   one-open lines false h more = more (omega arith)
@@ -64,7 +63,7 @@ feed-behind [] u h = refl
 feed-behind (b ∷ t) u h = one-behind b (indexOf lineFeed t) t u (eqb b lineFeed) h (feed-behind t u)
 
 one-joined : (b c k : ℕ) (u : List ℕ) (feed : Bool) → joined c (linesOf u) ≡ (c ∷ take k u) ∷ linesOf (afterFeed u) →
-    joined b (pick feed ([] ∷ linesOf u) (joined c (linesOf u))) ≡ (b ∷ take (indexAfter feed k) (c ∷ u)) ∷ linesOf (pick feed u (afterFeed u))
+    joined b (cond feed ([] ∷ linesOf u) (joined c (linesOf u))) ≡ (b ∷ take (indexAfter feed k) (c ∷ u)) ∷ linesOf (cond feed u (afterFeed u))
 unfolding indexAfter
 one-joined b c k u true e = refl
 one-joined b c k u false e = ap (joined b) e

@@ -1,11 +1,10 @@
 -- A whole run: the lines of an input, and what is told of them when it comes in parts, however these are cut.
 use mathlib.Core.Path.{_≡_}
-use mathlib.Core.Bool.{true}
+use mathlib.Core.Bool.{true, cond}
 use mathlib.Core.List.{List, [], _∷_, _++_}
 use Prim.Native.Nat.{ℕ, _≤_, _<_}
 use lib.Dec.{eqb}
 use lib.ListN.{length, take}
-use Rattle.chars.specs.Pick.{pick}
 use Rattle.lines.specs.declared.window.Window.{Window}
 use Rattle.lines.specs.declared.window.Found.the-variants.{Line, More, End}
 use Rattle.lines.specs.Window.{lineFeed, held, front, pastCut, textOf}
@@ -19,7 +18,7 @@ joined b (line ∷ lines) = (b ∷ line) ∷ lines
 -- the lines of a text: each ends at its line feed, the last one also at the end
 unfoldable pub linesOf : List ℕ → List (List ℕ)
 linesOf [] = []
-linesOf (b ∷ text) = pick (eqb b lineFeed) ([] ∷ linesOf text) (joined b (linesOf text))
+linesOf (b ∷ text) = cond (eqb b lineFeed) ([] ∷ linesOf text) (joined b (linesOf text))
 
 -- what is told of a line: all of it, or, of one that is too long, a beginning that is too long itself
 pub record Shown (longest : ℕ) (line shown : List ℕ) : Type 0 where

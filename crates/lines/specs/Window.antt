@@ -1,12 +1,11 @@
 -- The lines in the window of a buffer.
 use mathlib.Core.Path.{_≡_}
-use mathlib.Core.Bool.{Bool, true, false}
+use mathlib.Core.Bool.{Bool, true, false, cond}
 use mathlib.Core.List.{List, []}
 use Prim.Native.Nat.{ℕ, _+_, _-_, _≤_, min}
 use lib.Dec.{ltb}
 use lib.ListN.{length, take, drop}
 use Rattle.bytes.specs.Bytes.{indexOf}
-use Rattle.chars.specs.Pick.{pick}
 use Rattle.lines.specs.declared.window.Window.{Window}
 use Rattle.lines.specs.declared.window.Found.{Found}
 use Rattle.lines.specs.declared.window.Found.the-variants.{Line, More, End}
@@ -45,11 +44,11 @@ told w len behind cut =
     }
 
 abbrev pub untold : Window → Next
-untold w = record { found = pick (w .done) End More; window = w }
+untold w = record { found = cond (w .done) End More; window = w }
 
 -- by the length of the line, of all that is held, and the limit
 abbrev pub frontBy : Window → ℕ → ℕ → ℕ → Next
-frontBy w len all most = pick (ltb len all) (told w len (len + 1) false) (pick (ltb most len) (told w len len true) (untold w))
+frontBy w len all most = cond (ltb len all) (told w len (len + 1) false) (cond (ltb most len) (told w len len true) (untold w))
 
 -- the line at the front of a window, as soon as its line feed is there, or it has more bytes than the limit
 unfoldable pub front : List ℕ → Window → ℕ → Next
@@ -58,13 +57,13 @@ front buffer w longest = frontBy w (lineLength (held buffer w)) (length (held bu
 -- the window behind the rest of a line that was cut, by the length of that rest and of all that is held
 abbrev pub pastRest : Window → ℕ → ℕ → Window
 pastRest w len all =
-    pick
+    cond
     (ltb len all)
     (record { start = w .start + len + 1; end = w .end; cut = false; done = w .done })
     (record { start = w .end; end = w .end; cut = true; done = w .done })
 
 unfoldable pub pastCut : List ℕ → Window → Window
-pastCut buffer w = pick (w .cut) (pastRest w (lineLength (held buffer w)) (length (held buffer w))) w
+pastCut buffer w = cond (w .cut) (pastRest w (lineLength (held buffer w)) (length (held buffer w))) w
 
 -- the bytes of a line that was found
 abbrev pub textOf : List ℕ → Found → List ℕ

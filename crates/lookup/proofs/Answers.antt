@@ -10,21 +10,21 @@ use Rattle.answers.specs.declared.Refusal.{Refusal}
 use Rattle.chars.specs.Text.{ascii}
 use Rattle.decimal.specs.Put.{Put}
 use Rattle.lines.specs.Window.{lineFeed}
-use Rattle.reading.specs.declared.text.Verdict.{Verdict}
-use Rattle.reading.specs.declared.text.Verdict.the-variants.{Accepted, Refused}
-use Rattle.reading.specs.Reading.{versionOf}
-use Rattle.reading.specs.Value.{Value, valueIn}
-use Rattle.normal.specs.Normal.{normalText}
-use Rattle.roundtrip.proofs.Roundtrip.{normal-longest}
-use Rattle.table.specs.declared.lookup.Looked.{Looked}
-use Rattle.table.specs.declared.lookup.Looked.the-variants.{Yes, No, Table, Version}
-use Rattle.table.specs.Table.{Tabled, refused, ranges, tableOf}
-use Rattle.table.specs.Lookup.{lookedUp, looked}
-use Rattle.say.specs.Text.{refusalLine, normalLine}
+use Rattle.version_reading.specs.declared.text.Verdict.{Verdict}
+use Rattle.version_reading.specs.declared.text.Verdict.the-variants.{Accepted, Refused}
+use Rattle.version_reading.specs.Reading.{versionOf}
+use Rattle.version_reading.specs.Value.{Value, valueIn}
+use Rattle.version_normal.specs.Normal.{normalText}
+use Rattle.version_roundtrip.proofs.Roundtrip.{normal-longest}
+use Rattle.answers.specs.declared.YesNo.{YesNo}
+use Rattle.answers.specs.declared.YesNo.the-variants.{Yes, No, First as Table, Second as Version}
+use Rattle.table_reading.specs.Table.{Tabled, refused, ranges, tableOf}
+use Rattle.table_reading.specs.Lookup.{lookedUp, looked}
+use Rattle.answer_lines.specs.Text.{refusalLine, normalLine}
 use Rattle.lookup.specs.Answer.{answerLine, longestAnswer}
 
 -- the version was read
-abbrev says : Looked → Bool
+abbrev says : YesNo → Bool
 says Yes = true
 says No = true
 says (Table r) = false
@@ -35,7 +35,7 @@ said (refused number place) d w h = absurd (false≢true h)
 said (ranges T) (Refused r) w h = absurd (false≢true h)
 said (ranges T) Accepted w h = refl
 
-module _ (table version : List ℕ) {r : Looked} (e : r ≡ looked table version) where
+module _ (table version : List ℕ) {r : YesNo} (e : r ≡ looked table version) where
   fits : (name : List ℕ) → says r ≡ true → length name ≤ 4 → length (normalLine name version) ≤ longestAnswer
   unfolding looked
   fits name h g =

@@ -6,19 +6,19 @@ use Prim.Native.Nat.{ℕ, _<_}
 use native.Mathlib.Decide.{decLt}
 use native.Mathlib.Omega.{arith}
 use lib.ListN.{length}
-use Rattle.answers.specs.Written.{refusal}
+use Rattle.answers.specs.Refusal.{refusal}
 use Rattle.chars.specs.Text.{ascii}
-use Rattle.reading.specs.declared.text.Verdict.the-variants.{Refused}
-use Rattle.reading.specs.Reading.{longest}
-use Rattle.reading.specs.Value.{Value, valueIn}
+use Rattle.version_reading.specs.declared.text.Verdict.the-variants.{Refused}
+use Rattle.version_reading.specs.Reading.{longest}
+use Rattle.version_reading.specs.Value.{Value, valueIn}
 use Rattle.version.specs.Refusals.{Row}
 use Rattle.version.proofs.Exactly.{version-refused-exactly}
-use Rattle.clause.specs.List.{listOf}
-use Rattle.clause.proofs.Lists.{listed-long}
-use Rattle.table.specs.Table.{Tabled, refused, ranges, tableOf}
-use Rattle.table.specs.Lookup.{lookedUp, looked}
+use Rattle.list_clauses.specs.List.{listOf}
+use Rattle.list_clauses.proofs.Lists.{listed-long}
+use Rattle.table_reading.specs.Table.{Tabled, refused, ranges, tableOf}
+use Rattle.table_reading.specs.Lookup.{lookedUp, looked}
 use Rattle.lines.specs.Run.{Shown, AllShown}
-use Rattle.say.specs.Text.{refusalLine}
+use Rattle.answer_lines.specs.Text.{refusalLine}
 use Rattle.lookup.specs.Answer.{answerLine}
 
 abbrev pub lineFor : List ℕ → List ℕ → List ℕ

@@ -2,12 +2,12 @@
 use mathlib.Core.List.{List}
 use Prim.Native.Nat.{ℕ}
 use Rattle.chars.specs.Text.{ascii}
-use Rattle.say.specs.Text.{refusalLine, normalLine}
-use Rattle.table.specs.declared.lookup.Looked.{Looked}
-use Rattle.table.specs.declared.lookup.Looked.the-variants.{Yes, No, Table, Version}
+use Rattle.answer_lines.specs.Text.{refusalLine, normalLine}
+use Rattle.answers.specs.declared.YesNo.{YesNo}
+use Rattle.answers.specs.declared.YesNo.the-variants.{Yes, No, First as Table, Second as Version}
 
 -- the answer to a version, by what looking it up gave
-abbrev pub answerLine : Looked → List ℕ → List ℕ
+abbrev pub answerLine : YesNo → List ℕ → List ℕ
 answerLine Yes version = normalLine (ascii "yes ") version
 answerLine No version = normalLine (ascii "no ") version
 answerLine (Table r) version = refusalLine (ascii "table refused ") r

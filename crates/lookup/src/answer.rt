@@ -1,10 +1,10 @@
 // The answer lines, put into a buffer.
-use say::text::put_normal;
-use say::text::put_refusal;
-use seek::lookup;
-use table::lookup::Looked;
+use answer_lines::text::put_normal;
+use answer_lines::text::put_refusal;
+use answers::YesNo;
+use table_lookup::lookup;
 ghost use Rattle.decimal.specs.Put.{Put};
-ghost use Rattle.table.specs.Lookup.{looked};
+ghost use Rattle.table_reading.specs.Lookup.{looked};
 ghost use Rattle.lookup.specs.Answer.{longestAnswer, answerLine};
 
 // `yes `, the longest normal text, and a line feed.
@@ -16,9 +16,9 @@ pub(crate) fn put_answer(out: &mut [u8], at: usize, table: &[u8], version: &[u8]
 {
     let looked = lookup(table, version);
     match looked {
-        Looked::Yes => put_normal(out, at, b"yes ", version),
-        Looked::No => put_normal(out, at, b"no ", version),
-        Looked::Table(refusal) => put_refusal(out, at, b"table refused ", refusal),
-        Looked::Version(refusal) => put_refusal(out, at, b"refused ", refusal),
+        YesNo::Yes => put_normal(out, at, b"yes ", version),
+        YesNo::No => put_normal(out, at, b"no ", version),
+        YesNo::First(refusal) => put_refusal(out, at, b"table refused ", refusal),
+        YesNo::Second(refusal) => put_refusal(out, at, b"refused ", refusal),
     }
 }

@@ -3,17 +3,17 @@ mod answer;
 
 use answer::LONGEST_ANSWER;
 use answer::put_answer;
+use answer_lines::room::Room;
+use answer_lines::room::make_room;
+use answer_lines::text::put_refusal;
+use answers::Measured;
 use answers::Refusal;
-use answers::Written;
 use chars::place::part;
 use libc::STDOUT_FILENO;
 use lines::input::next_line;
 use lines::window::Found;
 use lines::window::Window;
 use lines::window::text_of;
-use say::room::Room;
-use say::room::make_room;
-use say::text::put_refusal;
 ghost use Prim.Native.Nat.{_≤_};
 ghost use lib.ListN.{length};
 ghost use Rattle.lookup.specs.Answer.{longestAnswer};
@@ -26,10 +26,10 @@ fn main() {
     let first = next_line(&mut buffer, lines::window::empty(), LONGEST_LINE);
     let found = first.found;
     let mut table = [0u8; 16384];
-    let written = compile::compile(text_of(&buffer, found), &mut table);
+    let written = table_compile::compile(text_of(&buffer, found), &mut table);
     match written {
-        Written::Length(n) => answer_versions(&mut buffer, first.window, part(&table, 0, n)),
-        Written::Refused(refusal) => refuse_list(refusal),
+        Measured::Length(n) => answer_versions(&mut buffer, first.window, part(&table, 0, n)),
+        Measured::Refused(refusal) => refuse_list(refusal),
     }
 }
 

@@ -1,7 +1,7 @@
 // Comparing numbers and lists of numbers. The theory of comparison itself, which other crates build their orders on, is in specs/
 // (the definitions) and proofs/ (the laws).
 ghost use mathlib.Core.Path.{_≡_};
-ghost use Prim.Native.Nat.{compare, _≤_};
+ghost use Prim.Native.Nat.{compare, min, _≤_};
 ghost use lib.ListN.{getD};
 ghost use Rattle.order.specs.Compare.{padded};
 ghost use Rattle.order.specs.Answer.{nameOf};
@@ -37,6 +37,13 @@ fn larger(a: usize, b: usize) -> usize
     ensures { λ r. ⌜ (a ≤ r) × (b ≤ r) ⌝ }
 {
     if a < b { b } else { a }
+}
+
+// The smaller of two lengths.
+pub fn smaller(a: usize, b: usize) -> usize
+    ensures { λ r. ⌜ r ≡ min a b ⌝ }
+{
+    if a < b { a } else { b }
 }
 
 // How the numbers of `a` compare with those of `b`, the first difference deciding, the shorter list continued with zeros.

@@ -19,18 +19,16 @@ use crate::say::put_word;
 use crate::say::put_written;
 use crate::words::word;
 use crate::words::word_count;
-use accepting::accept::Accepts;
-use answers::Written;
+use answers::Measured;
+use answers::YesNo;
 use chars::place::part;
 use check::same;
-use clause::list::Checked;
 use decimal::put::put_byte;
 use decimal::put::put_bytes;
 use decimal::put::put_number;
-use keys::compared::Compared;
-use register::plain::fit_held;
-use table::lookup::Looked;
-use word::packed::Worded;
+use register_fit::plain::fit_held;
+use version_order::compared::Compared;
+use version_word::packed::Worded;
 ghost use Prim.Native.Nat.{_≤_};
 ghost use lib.ListN.{length};
 
@@ -128,12 +126,12 @@ fn of_read(text: &[u8], out: &mut [u8]) -> usize {
 }
 
 fn of_list(list: &[u8], out: &mut [u8]) -> usize {
-    match clause::list::check(list) {
-        Checked::Count(n) => {
+    match list_clauses::list::check(list) {
+        Measured::Length(n) => {
             let digits = put_bytes(out, 0, b"ok ");
             put_number(out, digits, n as u64)
         }
-        Checked::Refused(refusal) => put_refusal(out, 0, b"no ", refusal),
+        Measured::Refused(refusal) => put_refusal(out, 0, b"no ", refusal),
     }
 }
 
@@ -176,20 +174,20 @@ fn of_texts(asked: OfTexts, first: &[u8], second: &[u8], out: &mut [u8]) -> usiz
 }
 
 fn of_accepts(list: &[u8], version: &[u8], out: &mut [u8]) -> usize {
-    match accepting::accepts(list, version) {
-        Accepts::Yes => put_bytes(out, 0, b"yes"),
-        Accepts::No => put_bytes(out, 0, b"no"),
-        Accepts::List(refusal) => put_refusal(out, 0, b"list ", refusal),
-        Accepts::Version(refusal) => put_refusal(out, 0, b"version ", refusal),
+    match list_accepting::accepts(list, version) {
+        YesNo::Yes => put_bytes(out, 0, b"yes"),
+        YesNo::No => put_bytes(out, 0, b"no"),
+        YesNo::First(refusal) => put_refusal(out, 0, b"list ", refusal),
+        YesNo::Second(refusal) => put_refusal(out, 0, b"version ", refusal),
     }
 }
 
 fn of_lookup(table: &[u8], version: &[u8], out: &mut [u8]) -> usize {
-    match seek::lookup(table, version) {
-        Looked::Yes => put_bytes(out, 0, b"yes"),
-        Looked::No => put_bytes(out, 0, b"no"),
-        Looked::Table(refusal) => put_refusal(out, 0, b"table ", refusal),
-        Looked::Version(refusal) => put_refusal(out, 0, b"version ", refusal),
+    match table_lookup::lookup(table, version) {
+        YesNo::Yes => put_bytes(out, 0, b"yes"),
+        YesNo::No => put_bytes(out, 0, b"no"),
+        YesNo::First(refusal) => put_refusal(out, 0, b"table ", refusal),
+        YesNo::Second(refusal) => put_refusal(out, 0, b"version ", refusal),
     }
 }
 
@@ -245,9 +243,9 @@ fn of_room(list: bool, text: &[u8], buffer: &mut [u8], n: usize, out: &mut [u8])
 }
 
 // The table of a list, or the normal text of a version.
-fn write(list: bool, text: &[u8], buffer: &mut [u8]) -> Written {
+fn write(list: bool, text: &[u8], buffer: &mut [u8]) -> Measured {
     if list {
-        return compile::compile(text, buffer);
+        return table_compile::compile(text, buffer);
     }
     version::normal(text, buffer)
 }

@@ -6,10 +6,10 @@ use bytes::scan::find;
 use chars::place::part;
 use check::same;
 use decimal::put::put_bytes;
-use fragment::reader;
+use fragment_reader::reader;
+use fragment_rules::answer::Says;
+use fragment_rules::reader::Reader;
 use libc::STDOUT_FILENO;
-use lumps::answer::Says;
-use lumps::reader::Reader;
 
 // A lump stands in front of the texts, up to its end.
 pub enum Event {

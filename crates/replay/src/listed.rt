@@ -4,10 +4,10 @@ use crate::decode::read_natural;
 use crate::words::piece;
 use crate::words::piece_count;
 use check::same;
-use entries::entry::Entry;
-use entries::held::Held;
-use entries::held::none_held;
-use entries::held::with_entry;
+use register_entries::entry::Entry;
+use register_entries::held::Held;
+use register_entries::held::none_held;
+use register_entries::held::with_entry;
 
 const LARGEST_ID: usize = 65535;
 

@@ -1,23 +1,23 @@
 // Answers, put into a buffer: what was read, refusals, and bytes in hexadecimal.
+use answers::Measured;
 use answers::Refusal;
-use answers::Written;
 use chars::place::byte_at;
-use choice::fit::Fit;
-use choice::lowest::Lowest;
 use decimal::put::put_byte;
 use decimal::put::put_bytes;
 use decimal::put::put_number;
-use normal::numbers::put_pre;
-use normal::numbers::put_release;
-use parts::fields::Local;
-use parts::fields::Part;
-use parts::fields::Pre;
-use parts::fields::Release;
-use parts::fields::Version;
-use reading::segment::Segment;
-use reading::segment::segment_bytes;
-use reading::segment::segment_of;
-use reading::text::Verdict;
+use register_rules::fit::Fit;
+use register_rules::lowest::Lowest;
+use version_normal::numbers::put_pre;
+use version_normal::numbers::put_release;
+use version_parts::fields::Local;
+use version_parts::fields::MaybeNumber;
+use version_parts::fields::Pre;
+use version_parts::fields::Release;
+use version_parts::fields::Version;
+use version_reading::segment::Segment;
+use version_reading::segment::segment_bytes;
+use version_reading::segment::segment_of;
+use version_reading::text::Verdict;
 
 pub(crate) fn put_refusal(out: &mut [u8], at: usize, name: &[u8], refusal: Refusal) -> usize {
     let number = put_bytes(out, at, name);
@@ -40,9 +40,9 @@ fn put_pre_word(out: &mut [u8], at: usize, pre: Pre) -> usize {
     put_pre(out, word, pre)
 }
 
-fn put_part_word(out: &mut [u8], at: usize, part: Part) -> usize {
+fn put_part_word(out: &mut [u8], at: usize, part: MaybeNumber) -> usize {
     let word = put_byte(out, at, b' ');
-    let Part::Is(n) = part else {
+    let MaybeNumber::Is(n) = part else {
         return put_byte(out, word, b'-');
     };
     put_number(out, word, n)
@@ -158,14 +158,14 @@ fn put_buffer(out: &mut [u8], at: usize, buffer: &[u8]) -> usize {
 }
 
 // What a printer answered, and the buffer as it left it.
-pub(crate) fn put_written(out: &mut [u8], written: Written, buffer: &[u8]) -> usize {
+pub(crate) fn put_written(out: &mut [u8], written: Measured, buffer: &[u8]) -> usize {
     match written {
-        Written::Length(n) => {
+        Measured::Length(n) => {
             let digits = put_bytes(out, 0, b"ok ");
             let end = put_number(out, digits, n as u64);
             put_buffer(out, end, buffer)
         }
-        Written::Refused(refusal) => {
+        Measured::Refused(refusal) => {
             let end = put_refusal(out, 0, b"no ", refusal);
             put_buffer(out, end, buffer)
         }

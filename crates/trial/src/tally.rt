@@ -1,11 +1,10 @@
 // Both answers to each made question, and how often they were which.
 use crate::made::put_candidate;
-use accepting::accept::Accepts;
-use answers::Written;
+use answers::Measured;
+use answers::YesNo;
 use chars::place::part;
 use decimal::put::put_bytes;
 use decimal::put::put_number;
-use table::lookup::Looked;
 
 const VERSIONS: u64 = 8;
 
@@ -34,40 +33,40 @@ pub(crate) fn nothing() -> Tally {
     }
 }
 
-fn looked_up(table: &[u8], version: &[u8], said: Accepts) -> Both {
-    match seek::lookup(table, version) {
-        Looked::Yes => match said {
-            Accepts::Yes => Both::Yes,
-            Accepts::No => Both::Differ,
-            Accepts::List(_) => Both::Differ,
-            Accepts::Version(_) => Both::Differ,
+fn looked_up(table: &[u8], version: &[u8], said: YesNo) -> Both {
+    match table_lookup::lookup(table, version) {
+        YesNo::Yes => match said {
+            YesNo::Yes => Both::Yes,
+            YesNo::No => Both::Differ,
+            YesNo::First(_) => Both::Differ,
+            YesNo::Second(_) => Both::Differ,
         },
-        Looked::No => match said {
-            Accepts::Yes => Both::Differ,
-            Accepts::No => Both::No,
-            Accepts::List(_) => Both::Differ,
-            Accepts::Version(_) => Both::Differ,
+        YesNo::No => match said {
+            YesNo::Yes => Both::Differ,
+            YesNo::No => Both::No,
+            YesNo::First(_) => Both::Differ,
+            YesNo::Second(_) => Both::Differ,
         },
-        Looked::Table(_) => Both::Differ,
-        Looked::Version(_) => Both::Differ,
+        YesNo::First(_) => Both::Differ,
+        YesNo::Second(_) => Both::Differ,
     }
 }
 
 // A list without a table is refused by its clauses too.
-fn unlisted(said: Accepts) -> Both {
+fn unlisted(said: YesNo) -> Both {
     match said {
-        Accepts::List(_) => Both::Refused,
-        Accepts::Yes => Both::Differ,
-        Accepts::No => Both::Differ,
-        Accepts::Version(_) => Both::Differ,
+        YesNo::First(_) => Both::Refused,
+        YesNo::Yes => Both::Differ,
+        YesNo::No => Both::Differ,
+        YesNo::Second(_) => Both::Differ,
     }
 }
 
-fn compared(list: &[u8], table: &[u8], compiled: Written, version: &[u8]) -> Both {
-    let said = accepting::accepts(list, version);
+fn compared(list: &[u8], table: &[u8], compiled: Measured, version: &[u8]) -> Both {
+    let said = list_accepting::accepts(list, version);
     match compiled {
-        Written::Length(n) => looked_up(part(table, 0, n), version, said),
-        Written::Refused(_) => unlisted(said),
+        Measured::Length(n) => looked_up(part(table, 0, n), version, said),
+        Measured::Refused(_) => unlisted(said),
     }
 }
 
@@ -120,7 +119,7 @@ pub(crate) fn one_list(
     table: &mut [u8],
     seed: u64,
 ) -> Tally {
-    let compiled = compile::compile(list, table);
+    let compiled = table_compile::compile(list, table);
     let mut tally = t;
     let mut now = seed;
     let mut left = VERSIONS;

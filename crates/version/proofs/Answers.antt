@@ -3,12 +3,12 @@
 use mathlib.Core.Path.{_≡_, refl}
 use mathlib.Core.Bool.{Bool, true, false}
 use Prim.Native.Nat.{ℕ}
-use Rattle.parts.specs.declared.places.NumberAt.{NumberAt}
-use Rattle.parts.specs.declared.places.NumberAt.the-variants.{Absent, Read, TooBig}
-use Rattle.parts.specs.declared.suffix.PreStep.{PreStep}
-use Rattle.parts.specs.declared.suffix.PreStep.the-variants.{Read as PreIs, TooBig as PreTooBig}
-use Rattle.parts.specs.declared.suffix.PartStep.{PartStep}
-use Rattle.parts.specs.declared.suffix.PartStep.the-variants.{Read as PartIs, TooBig as PartTooBig}
+use Rattle.version_parts.specs.declared.places.NumberAt.{NumberAt}
+use Rattle.version_parts.specs.declared.places.NumberAt.the-variants.{Absent, Read, TooBig}
+use Rattle.version_parts.specs.declared.suffix.PreStep.{PreStep}
+use Rattle.version_parts.specs.declared.suffix.PreStep.the-variants.{Read as PreIs, TooBig as PreTooBig}
+use Rattle.version_parts.specs.declared.suffix.PartStep.{PartStep}
+use Rattle.version_parts.specs.declared.suffix.PartStep.the-variants.{Read as PartIs, TooBig as PartTooBig}
 
 pub data FlagCases (x : Bool) : Type 0 where
   holds : x ≡ true → FlagCases x

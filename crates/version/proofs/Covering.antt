@@ -11,13 +11,13 @@ use lib.ListN.{length, getD, drop}
 use Rattle.chars.specs.Text.{ascii}
 use Rattle.chars.specs.Class.{blank, between, front}
 use Rattle.chars.specs.Case.{startsWith}
-use Rattle.parts.specs.declared.places.NumberAt.the-variants.{Read}
-use Rattle.reading.specs.declared.text.Verdict.the-variants.{Accepted}
-use Rattle.parts.specs.Places.{separatorEnd, numberAt, markedNumber}
-use Rattle.parts.specs.Head.{leadEnd}
-use Rattle.parts.specs.Suffix.{preAt, postAt, devAt}
-use Rattle.reading.specs.Label.{wordEnd}
-use Rattle.reading.specs.Reading.{longest, patternAs}
+use Rattle.version_parts.specs.declared.places.NumberAt.the-variants.{Read}
+use Rattle.version_reading.specs.declared.text.Verdict.the-variants.{Accepted}
+use Rattle.version_parts.specs.Places.{separatorEnd, numberAt, markedNumber}
+use Rattle.version_parts.specs.Head.{leadEnd}
+use Rattle.version_parts.specs.Suffix.{preAt, postAt, devAt}
+use Rattle.version_reading.specs.Label.{wordEnd}
+use Rattle.version_reading.specs.Reading.{longest, patternAs}
 use Rattle.version.specs.Refusals.{
   Epoch,
   Listed,

@@ -6,10 +6,10 @@ use mathlib.Core.Bool.{Bool, true, false}
 use mathlib.Core.List.{List}
 use Prim.Native.Nat.{ℕ, suc}
 use native.Mathlib.Omega.{arith}
-use Rattle.answers.specs.Written.{refusal}
-use Rattle.reading.specs.declared.text.Verdict.{Verdict}
-use Rattle.reading.specs.declared.text.Verdict.the-variants.{Accepted, Refused}
-use Rattle.reading.specs.Reading.{refusedWith, withoutWildcard, patternAs, patternOf, versionOf}
+use Rattle.answers.specs.Refusal.{refusal}
+use Rattle.version_reading.specs.declared.text.Verdict.{Verdict}
+use Rattle.version_reading.specs.declared.text.Verdict.the-variants.{Accepted, Refused}
+use Rattle.version_reading.specs.Reading.{refusedWith, withoutWildcard, patternAs, patternOf, versionOf}
 use Rattle.version.specs.Refusals.{Row}
 use Rattle.version.proofs.Rows.{refused-in-its-case}
 use Rattle.version.proofs.Covering.{some-row, accepted, refused}

@@ -6,12 +6,12 @@ use Prim.Native.Nat.{ℕ, suc, _+_, _-_, _<_}
 use Prim.Native.Char.{code}
 use native.Mathlib.Omega.{arith}
 use borrow.Author.Tests.{eq-eqb, ne-eqb}
-use Rattle.parts.specs.declared.fields.Release.{Release}
-use Rattle.parts.specs.declared.places.NumberAt.the-variants.{Absent, Read, TooBig}
-use Rattle.parts.specs.Fields.{onlyNumber, pushedNumber}
-use Rattle.parts.specs.Places.{numberAt, markedNumber}
-use Rattle.parts.specs.Head.{leadEnd, headRefused, releaseFrom, afterEpoch, headAt, headOf}
-use Rattle.parts.proofs.Heads.{release-done, release-big, release-full, release-more}
+use Rattle.version_parts.specs.declared.fields.Release.{Release}
+use Rattle.version_parts.specs.declared.places.NumberAt.the-variants.{Absent, Read, TooBig}
+use Rattle.version_parts.specs.Fields.{onlyNumber, pushedNumber}
+use Rattle.version_parts.specs.Places.{numberAt, markedNumber}
+use Rattle.version_parts.specs.Head.{leadEnd, headRefused, releaseFrom, afterEpoch, headAt, headOf}
+use Rattle.version_parts.proofs.Heads.{release-done, release-big, release-full, release-more}
 use Rattle.version.specs.Refusals.{Epoch, Listed, Released}
 
 -- nothing was read: the first number is missing, or too big

@@ -7,9 +7,9 @@ use Prim.Native.Nat.{ℕ, _≤_, _<_}
 use native.Mathlib.Omega.{arith}
 use lib.ListN.{length}
 use borrow.Author.Tests.{lt-ltb}
-use Rattle.parts.specs.Head.{headRefused, headOf}
-use Rattle.reading.specs.Reading.{longest, refusedWith, patternAs}
-use Rattle.reading.proofs.Wholes.{whole-head}
+use Rattle.version_parts.specs.Head.{headRefused, headOf}
+use Rattle.version_reading.specs.Reading.{longest, refusedWith, patternAs}
+use Rattle.version_reading.proofs.Wholes.{whole-head}
 use Rattle.version.specs.Refusals.{Fault, Row}
 use Rattle.version.proofs.Releases.{lead-missing, lead-big, first-missing, first-big, next-big, next-over}
 use Rattle.version.proofs.Stages.{

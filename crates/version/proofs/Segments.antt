@@ -5,11 +5,11 @@ use mathlib.Core.List.{List}
 use Prim.Native.Nat.{ℕ, suc, _-_, _<_}
 use native.Mathlib.Omega.{arith}
 use borrow.Author.Tests.{eq-eqb}
-use Rattle.parts.specs.declared.fields.Local.{Local}
-use Rattle.parts.specs.Fields.{noLocal, pushedSpan}
-use Rattle.parts.specs.Places.{separatorEnd}
-use Rattle.reading.specs.Label.{wordEnd, spanning, labelRead, labelRefused, segmentsFrom, labelAt}
-use Rattle.reading.proofs.Labels.{label-none, segment-empty, segment-full, segment-last, segment-more}
+use Rattle.version_parts.specs.declared.fields.Local.{Local}
+use Rattle.version_parts.specs.Fields.{noLocal, pushedSpan}
+use Rattle.version_parts.specs.Places.{separatorEnd}
+use Rattle.version_reading.specs.Label.{wordEnd, spanning, labelRead, labelRefused, segmentsFrom, labelAt}
+use Rattle.version_reading.proofs.Labels.{label-none, segment-empty, segment-full, segment-last, segment-more}
 use Rattle.version.specs.Refusals.{DevRead, Segmented, Labelled}
 
 -- so many segments were read: the label goes on from `at` as it went from its start

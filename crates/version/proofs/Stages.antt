@@ -10,14 +10,14 @@ use borrow.Author.Tests.{lt-ltb, le-ltb}
 use Rattle.chars.specs.Text.{ascii}
 use Rattle.chars.specs.Class.{blank, between, front}
 use Rattle.chars.specs.Case.{startsWith}
-use Rattle.parts.specs.declared.fields.Version.{Version}
-use Rattle.parts.specs.declared.suffix.PreStep.the-variants.{TooBig as PreTooBig}
-use Rattle.parts.specs.declared.suffix.PartStep.the-variants.{TooBig as PartTooBig}
-use Rattle.reading.specs.declared.text.Verdict.the-variants.{Accepted}
-use Rattle.parts.specs.Head.{headOf}
-use Rattle.parts.specs.Suffix.{preAt, postAt, devAt, suffixFrom, afterPre, afterPost, suffixAt}
-use Rattle.reading.specs.Label.{wordEnd, labelRefused, labelAt}
-use Rattle.reading.specs.Reading.{
+use Rattle.version_parts.specs.declared.fields.Version.{Version}
+use Rattle.version_parts.specs.declared.suffix.PreStep.the-variants.{TooBig as PreTooBig}
+use Rattle.version_parts.specs.declared.suffix.PartStep.the-variants.{TooBig as PartTooBig}
+use Rattle.version_reading.specs.declared.text.Verdict.the-variants.{Accepted}
+use Rattle.version_parts.specs.Head.{headOf}
+use Rattle.version_parts.specs.Suffix.{preAt, postAt, devAt, suffixFrom, afterPre, afterPost, suffixAt}
+use Rattle.version_reading.specs.Label.{wordEnd, labelRefused, labelAt}
+use Rattle.version_reading.specs.Reading.{
   longest,
   refusedWith,
   fielded,
@@ -28,7 +28,7 @@ use Rattle.reading.specs.Reading.{
   afterRelease,
   patternAs,
 }
-use Rattle.reading.proofs.Wholes.{end-refused}
+use Rattle.version_reading.proofs.Wholes.{end-refused}
 use Rattle.version.specs.Refusals.{Released, Plain, PreRead, PostRead, DevRead, Segmented, Labelled}
 use Rattle.version.proofs.Releases.{head-read}
 use Rattle.version.proofs.Segments.{so-far, whole, due-missing, due-over}

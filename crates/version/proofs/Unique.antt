@@ -3,11 +3,11 @@
 use mathlib.Core.Path.{_≡_, sym, _∙_}
 use mathlib.Core.List.{List}
 use Prim.Native.Nat.{ℕ}
-use Rattle.answers.specs.declared.Written.{Written}
-use Rattle.reading.specs.declared.text.Reading.{Reading}
-use Rattle.reading.specs.declared.text.PatternReading.{PatternReading}
-use Rattle.reading.specs.Reading.{Read, VersionRead}
-use Rattle.normal.specs.Normal.{NormalPrinted}
+use Rattle.answers.specs.declared.Measured.{Measured}
+use Rattle.version_reading.specs.declared.text.Reading.{Reading}
+use Rattle.version_reading.specs.declared.text.PatternReading.{PatternReading}
+use Rattle.version_reading.specs.Reading.{Read, VersionRead}
+use Rattle.version_normal.specs.Normal.{NormalPrinted}
 
 pub one-reading : {spec r q : Reading} → VersionRead spec r → VersionRead spec q → r ≡ q
 one-reading p q = p .is ∙ sym (q .is)
@@ -20,5 +20,5 @@ pub one-answer : {A : Type 0} {spec r q : A} → r ≡ spec → q ≡ spec → r
 one-answer p q = p ∙ sym q
 
 -- the answer and the buffer afterwards
-pub one-normal : {s old new new′ : List ℕ} {r q : Written} → NormalPrinted s old new r → NormalPrinted s old new′ q → (r ≡ q) × (new ≡ new′)
+pub one-normal : {s old new new′ : List ℕ} {r q : Measured} → NormalPrinted s old new r → NormalPrinted s old new′ q → (r ≡ q) × (new ≡ new′)
 one-normal p q = (p .answers ∙ sym (q .answers), p .leaves ∙ sym (q .leaves))

@@ -8,16 +8,16 @@ use lib.ListN.{length, getD, drop}
 use Rattle.chars.specs.Text.{ascii}
 use Rattle.chars.specs.Class.{blank, between, front}
 use Rattle.chars.specs.Case.{startsWith}
-use Rattle.parts.specs.declared.fields.Pre.{Pre}
-use Rattle.parts.specs.declared.fields.Part.{Part}
-use Rattle.parts.specs.declared.places.NumberAt.the-variants.{Absent, Read, TooBig}
-use Rattle.parts.specs.declared.suffix.PreStep.the-variants.{Read as PreIs, TooBig as PreTooBig}
-use Rattle.parts.specs.declared.suffix.PartStep.the-variants.{Read as PartIs, TooBig as PartTooBig}
-use Rattle.parts.specs.Places.{separatorEnd, numberAt, markedNumber}
-use Rattle.parts.specs.Head.{leadEnd}
-use Rattle.parts.specs.Suffix.{preAt, postAt, devAt}
-use Rattle.reading.specs.Label.{wordEnd}
-use Rattle.reading.specs.Reading.{longest}
+use Rattle.version_parts.specs.declared.fields.Pre.{Pre}
+use Rattle.version_parts.specs.declared.fields.MaybeNumber.{MaybeNumber}
+use Rattle.version_parts.specs.declared.places.NumberAt.the-variants.{Absent, Read, TooBig}
+use Rattle.version_parts.specs.declared.suffix.PreStep.the-variants.{Read as PreIs, TooBig as PreTooBig}
+use Rattle.version_parts.specs.declared.suffix.PartStep.the-variants.{Read as PartIs, TooBig as PartTooBig}
+use Rattle.version_parts.specs.Places.{separatorEnd, numberAt, markedNumber}
+use Rattle.version_parts.specs.Head.{leadEnd}
+use Rattle.version_parts.specs.Suffix.{preAt, postAt, devAt}
+use Rattle.version_reading.specs.Label.{wordEnd}
+use Rattle.version_reading.specs.Reading.{longest}
 
 -- a number and its `!` stand in front, and the release is due at `at`
 pub record Epoch (s : List ℕ) (at : ℕ) : Type 0 where
@@ -54,13 +54,13 @@ pub record PreRead (s : List ℕ) (at : ℕ) : Type 0 where
 pub record PostRead (s : List ℕ) (at : ℕ) : Type 0 where
   pub from : ℕ
   pub before : PreRead s from
-  pub post : Part
+  pub post : MaybeNumber
   pub read : postAt s from ≡ PartIs post at
 
 pub record DevRead (s : List ℕ) (at : ℕ) : Type 0 where
   pub from : ℕ
   pub before : PostRead s from
-  pub dev : Part
+  pub dev : MaybeNumber
   pub read : devAt s from ≡ PartIs dev at
 
 -- so many segments of a label were read, and the next is due at `at`

@@ -1,17 +1,17 @@
 // The version layer's promises: each entry point takes any bytes, and says all of its answer.
-use answers::Written;
-use keys::compared::Compared;
-use reading::text::PatternReading;
-use reading::text::Reading;
-use reading::text::read_pattern;
-use reading::text::read_version;
-use word::packed::Worded;
+use answers::Measured;
+use version_order::compared::Compared;
+use version_reading::text::PatternReading;
+use version_reading::text::Reading;
+use version_reading::text::read_pattern;
+use version_reading::text::read_version;
+use version_word::packed::Worded;
 ghost use mathlib.Core.Path.{_≡_};
-ghost use Rattle.keys.specs.Compared.{compared};
-ghost use Rattle.normal.specs.Normal.{NormalPrinted};
-ghost use Rattle.reading.specs.Reading.{Read, VersionRead, patternOf, versionOf};
-ghost use Rattle.reading.specs.Segment.{segmentText};
-ghost use Rattle.word.specs.Worded.{wordAnswer};
+ghost use Rattle.version_order.specs.Compared.{compared};
+ghost use Rattle.version_normal.specs.Normal.{NormalPrinted};
+ghost use Rattle.version_reading.specs.Reading.{Read, VersionRead, patternOf, versionOf};
+ghost use Rattle.version_reading.specs.Segment.{segmentText};
+ghost use Rattle.version_word.specs.Worded.{wordAnswer};
 
 // The fields of a version, or its refusal.
 pub fn read(text: &[u8]) -> Reading
@@ -31,26 +31,26 @@ pub fn pattern(text: &[u8]) -> PatternReading
 pub fn segment(text: &[u8], index: usize) -> &[u8]
     ensures { λ r. ⌜ now r ≡ segmentText (now (text .entry)) index ⌝ }
 {
-    reading::segment::segment_text(text, index)
+    version_reading::segment::segment_text(text, index)
 }
 
 // Writes the normal text of a version to the front of a buffer. A refused call leaves the buffer as it was, and success what lies behind the text.
-pub fn normal(text: &[u8], buffer: &mut [u8]) -> Written
+pub fn normal(text: &[u8], buffer: &mut [u8]) -> Measured
     ensures { λ r. ⌜ NormalPrinted (now (text .entry)) (now (buffer .entry)) (now (buffer .exit)) r ⌝ }
 {
-    normal::text::print_normal(text, buffer)
+    version_normal::text::print_normal(text, buffer)
 }
 
 // How the first version compares with the second, or which text is refused: the first is judged first.
 pub fn compare(first: &[u8], second: &[u8]) -> Compared
     ensures { λ r. ⌜ r ≡ compared (now (first .entry)) (now (second .entry)) ⌝ }
 {
-    compare::text::compare(first, second)
+    version_compare::text::compare(first, second)
 }
 
 // The packed word of a small version; that a version has none is no refusal.
 pub fn word(text: &[u8]) -> Worded
     ensures { λ r. ⌜ r ≡ wordAnswer (now (text .entry)) ⌝ }
 {
-    word::text::word(text)
+    version_word::text::word(text)
 }

@@ -4,7 +4,7 @@ use mathlib.Core.Path.{_≡_}
 use Prim.Native.Nat.{_≤_}
 use lib.ListN.{length}
 use borrow.Author.Needs.{needs}
-use Rattle.say.proofs.Rooms.{stays-inside}
+use Rattle.answer_lines.proofs.Rooms.{stays-inside}
 use Rattle.fits.proofs.answer_each.Statement.{statement}
 use Rattle.fits.proofs.answer_each.Tie as tie
 

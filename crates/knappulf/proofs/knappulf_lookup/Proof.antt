@@ -1,7 +1,7 @@
 -- `knappulf::knappulf_lookup` meets its contract: the answer is told.
 -- Assumes nothing.
 use borrow.Author.Needs.{needs}
-use Rattle.told.proofs.Tells.{told-as}
+use Rattle.boundary_answers.proofs.Tells.{told-as}
 use Rattle.knappulf.proofs.knappulf_lookup.Statement.{statement}
 use Rattle.knappulf.proofs.knappulf_lookup.Tie as tie
 

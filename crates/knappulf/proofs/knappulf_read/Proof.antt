@@ -1,9 +1,9 @@
 -- `knappulf::knappulf_read` meets its contract: the verdict is told, and decides on the fields.
 -- Assumes nothing.
 use borrow.Author.Needs.{needs}
-use Rattle.boundary.proofs.Shorts.{short-version}
-use Rattle.told.proofs.Shorts.{told-version}
-use Rattle.told.proofs.Tells.{told-as}
+use Rattle.boundary_fields.proofs.Plains.{plain-version}
+use Rattle.boundary_answers.proofs.Plains.{told-version}
+use Rattle.boundary_answers.proofs.Tells.{told-as}
 use Rattle.knappulf.proofs.knappulf_read.Statement.{statement}
 use Rattle.knappulf.proofs.knappulf_read.Tie as tie
 
@@ -15,7 +15,7 @@ knappulf-read-spec =
     (λ c κs. search needs)
     (λ c κs. search needs)
     (λ c κs. search needs)
-    (λ c. (told-as (c .tell .ensures) (search told-version), search short-version))
+    (λ c. (told-as (c .tell .ensures) (search told-version), search plain-version))
     (λ c κs. search needs)
     (λ c κs. search needs)
     (λ c κs. search needs)

@@ -1,13 +1,12 @@
 -- `chars::class::class_of` meets its contract: the table's rule is one test, computed at each of its 256 entries.
 -- Assumes nothing.
-use mathlib.Core.Bool.{Bool, false}
+use mathlib.Core.Bool.{Bool, false, cond}
 use mathlib.Core.List.{List, [], _∷_}
 use Prim.Native.Nat.{ℕ, _*_}
 use native.Mathlib.Omega.{arith}
 use lib.Dec.{T, eqb, leb, eqb→eq, leb→le}
 use lib.ListN.{getD}
 use borrow.Author.Needs.{needs}
-use Rattle.chars.specs.Pick.{pick}
 use Rattle.chars.specs.Class.{classOf}
 use Rattle.chars.proofs.Table.{every, at, both-left, both-right}
 use Rattle.chars.proofs.class.class_of.Statement.{statement}
@@ -35,7 +34,7 @@ table =
     []
 
 right : ℕ → ℕ → Bool
-right b class = pick (eqb class (classOf b)) (leb class (4 * b)) false
+right b class = cond (eqb class (classOf b)) (leb class (4 * b)) false
 
 passes : T (every right 0 table)
 unfolding table right classOf

@@ -1,7 +1,7 @@
 -- `fits::answer::put_entry_refusal` meets its contract: three texts in a row.
 -- Assumes nothing.
 use borrow.Author.Needs.{needs}
-use Rattle.say.proofs.Texts.{three-put}
+use Rattle.answer_lines.proofs.Texts.{three-put}
 use Rattle.fits.proofs.answer.put_entry_refusal.Statement.{statement}
 use Rattle.fits.proofs.answer.put_entry_refusal.Tie as tie
 

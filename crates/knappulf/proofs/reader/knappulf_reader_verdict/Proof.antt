@@ -1,7 +1,7 @@
 -- `knappulf::reader::knappulf_reader_verdict` meets its contract: what is said decides on the fields, and is told.
 -- Assumes nothing.
 use borrow.Author.Needs.{needs}
-use Rattle.told.proofs.Tells.{told-as}
+use Rattle.boundary_answers.proofs.Tells.{told-as}
 use Rattle.knappulf.proofs.Quick.{quick-told, quick-fields}
 use Rattle.knappulf.proofs.reader.knappulf_reader_verdict.Statement.{statement}
 use Rattle.knappulf.proofs.reader.knappulf_reader_verdict.Tie as tie

@@ -1,2 +1,0 @@
-pub mod Accept
-pub mod Short

@@ -1,0 +1,17 @@
+-- `boundary_answers::said::of_verdict` meets its contract: each answer has its numbers.
+-- Assumes nothing.
+use borrow.Author.Needs.{needs}
+use Rattle.boundary_answers.proofs.said.of_verdict.Statement.{statement}
+use Rattle.boundary_answers.proofs.said.of_verdict.Tie as tie
+
+pub of-verdict-spec : {M : Type 1} → statement M
+of-verdict-spec =
+    tie.close
+    (tie.spec
+    (λ c. search needs)
+    (λ c. search needs)
+    (λ c κs. search needs)
+    (λ c. search needs)
+    (λ c κs. search needs)
+    (λ c. cc)
+    (λ c. cc))

@@ -1,8 +1,0 @@
--- `fragment::reader::reset` meets its contract: it makes a new reader.
--- Assumes nothing.
-use borrow.Author.Needs.{needs}
-use Rattle.fragment.proofs.reader.reset.Statement.{statement}
-use Rattle.fragment.proofs.reader.reset.Tie as tie
-
-pub reset-spec : {M : Type 1} → statement M
-reset-spec = tie.close (tie.spec (λ c. search needs))

@@ -1,0 +1,16 @@
+-- `list_accepting::plain::find_plain` meets its contract.
+-- Assumes nothing.
+use lib.Seq.{length-take-le}
+use Rattle.list_accepting.proofs.PlainClauses.{clause-found}
+use borrow.Author.Needs.{needs}
+use Rattle.list_accepting.proofs.plain.find_plain.Statement.{statement}
+use Rattle.list_accepting.proofs.plain.find_plain.Tie as tie
+
+pub find-plain-spec : {M : Type 1} → statement M
+find-plain-spec =
+    tie.close
+    (tie.spec
+    (λ c κs. search needs)
+    (λ c. search (length-take-le, needs))
+    (λ c κs. search needs)
+    (λ c. search clause-found))

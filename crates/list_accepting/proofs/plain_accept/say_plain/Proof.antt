@@ -1,0 +1,22 @@
+-- `list_accepting::plain_accept::say_plain` meets its contract: one law for each way out.
+-- Assumes nothing.
+use Rattle.list_accepting.proofs.PlainClauses.{found-filled, said-plain}
+use borrow.Author.Needs.{needs}
+use Rattle.list_accepting.proofs.plain_accept.say_plain.Statement.{statement}
+use Rattle.list_accepting.proofs.plain_accept.say_plain.Tie as tie
+
+pub say-plain-spec : {M : Type 1} → statement M
+say-plain-spec =
+    tie.close
+    (tie.spec
+    (λ c. search needs)
+    (λ c. search needs)
+    (λ c. search needs)
+    (λ c κs. search needs)
+    (λ c. search needs)
+    (λ c κs. search needs)
+    (λ c κs. search needs)
+    (λ c. search needs)
+    (λ c κs. (search found-filled, search needs))
+    (λ c. cc)
+    (λ c. search said-plain))

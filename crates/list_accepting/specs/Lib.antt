@@ -1,0 +1,2 @@
+pub mod Accept
+pub mod Plain

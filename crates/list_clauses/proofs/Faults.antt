@@ -1,0 +1,128 @@
+-- A clause is refused with a number and a place exactly in the case of that row.
+-- Assumes nothing.
+use mathlib.Core.Path.{_≡_, refl, sym, _∙_, ap}
+use mathlib.Core.Bool.{true}
+use mathlib.Core.List.{List}
+use Prim.Native.Nat.{ℕ, _+_, _≤_, _<_}
+use native.Mathlib.Decide.{ℕ-discrete}
+use native.Mathlib.Omega.{arith}
+use lib.ListN.{length, drop, length-drop}
+use borrow.Author.Tests.{eq-eqb, ne-eqb}
+use Rattle.version_reading.specs.declared.text.PatternReading.{PatternReading}
+use Rattle.version_reading.specs.Reading.{longest}
+use Rattle.version.specs.Refusals.{Row as PatternRow}
+use Rattle.version.proofs.Answers.{flag-cases, holds, fails}
+use Rattle.version.proofs.Covering.{some-row, accepted, refused}
+use Rattle.version.proofs.Exactly.{pattern-refused}
+use Rattle.version.proofs.Numbers.{refusal-numbers}
+use Rattle.list_clauses.specs.declared.operator.Operator.{Operator}
+use Rattle.list_clauses.specs.declared.operator.OperatorAt.{OperatorAt}
+use Rattle.list_clauses.specs.declared.operator.OperatorAt.the-variants.{Found, Missing}
+use Rattle.list_clauses.specs.declared.clause.Clause.{Clause}
+use Rattle.list_clauses.specs.Operator.{operatorOf}
+use Rattle.list_clauses.specs.Clause.{refusedClause, strayWildcard, tooShort, judged, patternClause, trimmedClause}
+use Rattle.list_clauses.specs.Refusals.{lead, OperatorRead, PatternRead, Fault, Faultless}
+
+-- the clause with trimmed bytes t, of a list that is not too long
+module _ (t : List ℕ) (start : ℕ) (short : length t ≤ longest) where
+  -- what a clause comes to, stage by stage
+  empty-refused : lead t ≡ length t → trimmedClause t start ≡ refusedClause 12 start
+  unfolding trimmedClause
+  empty-refused e = rw (eq-eqb _ _ e)
+
+  unoperated : (lead t ≡ length t → ⊥) → operatorOf (drop (lead t) t) ≡ Missing → trimmedClause t start ≡ refusedClause 13 (start + lead t)
+  unfolding trimmedClause
+  unoperated some e = rw (ne-eqb _ _ some, e)
+
+  operated : {o : Operator} {from : ℕ} → OperatorRead t o from → trimmedClause t start ≡ patternClause o (drop from t) (start + from)
+  unfolding trimmedClause
+  operated a = rw (a .behind, ne-eqb _ _ (a .some), a .found)
+
+  pattern-refused-there : {o : Operator} {from n p : ℕ} → OperatorRead t o from → PatternRow true (drop from t) n p →
+      trimmedClause t start ≡ refusedClause n (start + from + p)
+  unfolding patternClause
+  pattern-refused-there a r = operated a ∙ rw (pattern-refused _ _ _ r)
+
+  pattern-judged-there : {o : Operator} {from : ℕ} {r : PatternReading} → PatternRead t o from r →
+      trimmedClause t start ≡ judged o (r .wildcard) (r .version) (start + from)
+  unfolding patternClause
+  pattern-judged-there a = operated (a .operated) ∙ rw (← a .is, a .read)
+
+  within-pattern : (from : ℕ) → length (drop from t) ≤ longest
+  within-pattern from = omega (arith, length-drop from t)
+
+  pub fault-refused : {n p : ℕ} → Fault t start n p → trimmedClause t start ≡ refusedClause n p
+  unfolding judged
+  fault-refused (Fault.empty e) = empty-refused e
+  fault-refused (Fault.no-operator some e) = unoperated some e
+  fault-refused (Fault.in-pattern o from n p a f) = pattern-refused-there a (PatternRow.within n p (within-pattern from) f)
+  fault-refused (Fault.stray-wildcard o from r a e) = pattern-judged-there a ∙ rw e
+  fault-refused (Fault.labelled o from r a e f) = pattern-judged-there a ∙ rw (e, ne-eqb _ _ f)
+  fault-refused (Fault.too-short o from r a e f g) = pattern-judged-there a ∙ rw (e, eq-eqb _ _ f, g)
+
+  -- no row has the number 0
+  pub fault-number : {n p : ℕ} → Fault t start n p → 0 < n
+  fault-number (Fault.empty e) = omega arith
+  fault-number (Fault.no-operator some e) = omega arith
+  fault-number (Fault.in-pattern o from n p a f) = omega (arith, refusal-numbers (PatternRow.within n p (within-pattern from) f) .0)
+  fault-number (Fault.stray-wildcard o from r a e) = omega arith
+  fault-number (Fault.labelled o from r a e f) = omega arith
+  fault-number (Fault.too-short o from r a e f g) = omega arith
+
+  -- every clause is accepted or has a row
+  data Judged : Type 0 where
+    faultless : trimmedClause t start .refusal ≡ 0 → Judged
+    faulty : (n p : ℕ) → Fault t start n p → Judged
+
+  from-pattern : {o : Operator} {from : ℕ} (r : PatternReading) → PatternRead t o from r → Judged
+  unfolding judged
+  from-pattern {o = o} {from = from} r a =
+      elim (flag-cases (strayWildcard o (r .wildcard))) [
+        | holds e ↦ faulty 14 _ (Fault.stray-wildcard o from r a e)
+        | fails e ↦
+            elim (ℕ-discrete (r .version .local .len) 0) [
+              | no f ↦ faulty 15 _ (Fault.labelled o from r a e f)
+              | yes f ↦
+                  elim (flag-cases (tooShort o (r .version .release .len))) [
+                    | holds g ↦ faulty 16 _ (Fault.too-short o from r a e f g)
+                    | fails g ↦ faultless (ap (λ (c : Clause). c .refusal) (pattern-judged-there a) ∙ rw (e, eq-eqb _ _ f, g))
+                  ]
+            ]
+      ]
+
+  from-row : {o : Operator} {from n p : ℕ} → OperatorRead t o from → PatternRow true (drop from t) n p → Judged
+  from-row {from = from} a (PatternRow.too-long h) = absurd (omega (arith, within-pattern from))
+  from-row {o = o} {from = from} a (PatternRow.within n p k f) = faulty n _ (Fault.in-pattern o from n p a f)
+
+  from-operator : {o : Operator} {from : ℕ} → OperatorRead t o from → Judged
+  from-operator {from = from} a =
+      elim (some-row true (drop from t)) [
+        | accepted e ↦ from-pattern _ (record { operated = a; is = refl; read = e })
+        | refused n p r ↦ from-row a r
+      ]
+
+  from-lead : (lead t ≡ length t → ⊥) → (r : OperatorAt) → operatorOf (drop (lead t) t) ≡ r → Judged
+  from-lead some (Found o width) e = from-operator (record { width = width; some = some; found = e; behind = refl })
+  from-lead some Missing e = faulty 13 _ (Fault.no-operator some e)
+
+  some-fault : Judged
+  some-fault =
+      elim (ℕ-discrete (lead t) (length t)) [
+        | yes e ↦ faulty 12 start (Fault.empty e)
+        | no some ↦ from-lead some (operatorOf (drop (lead t) t)) refl
+      ]
+
+  pub fault-of-refusal : (trimmedClause t start .refusal ≡ 0 → ⊥) → Fault t start (trimmedClause t start .refusal) (trimmedClause t start .place)
+  fault-of-refusal some =
+      elim some-fault [
+        | faultless e ↦ absurd (some e)
+        | faulty n p f ↦ rw (fault-refused f) f
+      ]
+
+  pub read-faultless : trimmedClause t start .refusal ≡ 0 → Faultless t start
+  read-faultless e n p f =
+      let number : n ≡ 0 = sym (ap (λ (c : Clause). c .refusal) (fault-refused f)) ∙ e in
+      omega (arith, fault-number f)
+
+  pub faultless-read : Faultless t start → trimmedClause t start .refusal ≡ 0
+  faultless-read none = elim some-fault [ faultless e ↦ e | faulty n p f ↦ absurd (none n p f) ]

@@ -1,0 +1,116 @@
+-- The versions at the ends of a sound clause can be written: its own, the start of what it matches, and the next prefix.
+-- Assumes nothing.
+use mathlib.Core.Path.{_≡_, refl}
+use mathlib.Core.Bool.{Bool, true, false}
+use mathlib.Core.List.{List, [], _∷_}
+use mathlib.Core.Option.{Option, none, some}
+use Prim.Native.Nat.{ℕ, suc, _-_, _≤_}
+use native.Mathlib.Omega.{arith}
+use lib.Dec.{eqb}
+use lib.ListN.{length, length-take}
+use borrow.Author.Tests.{eqb-false}
+use Rattle.order.specs.All.{All}
+use Rattle.order.proofs.Elements.{all-take}
+use Rattle.ranges.specs.Cut.{bot, top, before, after}
+use Rattle.ranges.specs.Shape.{lowerEnd, upperEnd}
+use Rattle.version_reading.specs.Value.{Value}
+use Rattle.decimal.specs.Parse.{largest}
+use Rattle.version_prefix.specs.Prefix.{shorter, raised, nextRelease, carried, nextPrefix, devZero, zeroed, prefixStart}
+use Rattle.version_roundtrip.specs.Readable.{Fits}
+use Rattle.version_roundtrip.proofs.ReadPlaces.{by-cond}
+use Rattle.list_clauses.specs.declared.operator.Operator.{Operator}
+use Rattle.list_clauses.specs.declared.operator.Operator.the-variants.{Equal, NotEqual, Compatible, AtMost, AtLeast, Below, Above}
+use Rattle.list_clauses.specs.declared.clause.Clause.{Clause}
+use Rattle.list_accepting.specs.Accept.{clauseValue}
+use Rattle.list_ends.specs.Cut.{Place}
+use Rattle.list_ends.specs.Shape.{endsBefore, matchEnd, shapeOf, clauseShape}
+use Rattle.list_ends.specs.Sound.{Sound}
+use Rattle.list_ends.specs.Writable.{Writable}
+
+-- where there is a version, it can be written
+abbrev pub Holds : Place → Type 0
+Holds bot = Unit {0}
+Holds top = Unit {0}
+Holds (before v) = Writable v
+Holds (after v) = Writable v
+
+-- numbers of 64 bits: one at least, and so many at most
+record Numbers (most : ℕ) (l : List ℕ) : Type 0 where
+  fits : All Fits l
+  some : 1 ≤ length l
+  few : length l ≤ most
+
+abbrev NextFits : ℕ → Option (List ℕ) → Type 0
+NextFits most none = Unit {0}
+NextFits most (some l) = Numbers most l
+
+raised-fits : (x most : ℕ) (n : Option (List ℕ)) → Fits x → NextFits most n → NextFits (suc most) (raised x n)
+raised-fits x most (some l) fit r = record { fits = (fit, r .fits); some = omega arith; few = omega (arith, r .few) }
+raised-fits x most none fit r =
+    by-cond (NextFits (suc most)) (eqb x largest) (λ e. tt)
+    (λ e. let other : x ≡ largest → ⊥ = eqb-false x largest e in
+    record { fits = (omega arith, tt); some = omega arith; few = omega arith })
+
+next-fits : (l : List ℕ) → All Fits l → NextFits (length l) (nextRelease l)
+next-fits [] fits = tt
+next-fits (x ∷ l) fits = raised-fits x (length l) (nextRelease l) (fits .0) (next-fits l (fits .1))
+
+dev-zero-writable : (epoch : ℕ) (release : List ℕ) → Fits epoch → Numbers 16 release → Writable (devZero epoch release)
+dev-zero-writable epoch release fit r = record {
+  readable = record {
+    epoch = fit;
+    some = r .some;
+    few = r .few;
+    release = r .fits;
+    pre = tt;
+    post = tt;
+    dev = omega arith;
+    short = omega arith;
+    label = tt;
+  };
+  unlabelled = refl;
+}
+
+carried-writable : (epoch most : ℕ) (n : Option (List ℕ)) → Fits epoch → most ≤ 16 → NextFits most n →
+    Holds (endsBefore (zeroed (carried epoch n)))
+carried-writable epoch most (some l) fit room r =
+    dev-zero-writable epoch l fit (record { fits = r .fits; some = r .some; few = omega (arith, r .few) })
+carried-writable epoch most none fit room r =
+    by-cond (λ p. Holds (endsBefore (zeroed p))) (eqb epoch largest) (λ e. tt)
+    (λ e. let other : epoch ≡ largest → ⊥ = eqb-false epoch largest e in
+    dev-zero-writable (suc epoch) (0 ∷ []) (omega arith) (record { fits = (omega arith, tt); some = omega arith; few = omega arith }))
+
+end-holds : (v : Value) → Fits (v .epoch) → All Fits (v .release) → length (v .release) ≤ 16 → Holds (matchEnd v)
+unfolding nextPrefix
+end-holds v fit fits few =
+    carried-writable (v .epoch) (length (v .release)) (nextRelease (v .release)) fit few (next-fits (v .release) fits)
+
+module _ (v : Value) (w : Writable v) where
+  start : Writable (prefixStart v)
+  start =
+      dev-zero-writable (v .epoch) (v .release) (w .readable .epoch)
+      (record { fits = w .readable .release; some = w .readable .some; few = w .readable .few })
+
+  whole : Holds (matchEnd v)
+  whole = end-holds v (w .readable .epoch) (w .readable .release) (w .readable .few)
+
+  less : Holds (matchEnd (shorter v))
+  less =
+      let count = length (v .release) - 1 in
+      end-holds (shorter v) (w .readable .epoch) (all-take Fits count (v .release) (w .readable .release))
+      (omega (arith, length-take count (v .release), w .readable .few))
+
+  by-operator : (o : Operator) (wildcard : Bool) → Holds (lowerEnd (shapeOf o wildcard v)) × Holds (upperEnd (shapeOf o wildcard v))
+  by-operator Equal false = (w, w)
+  by-operator Equal true = (start, whole)
+  by-operator NotEqual false = (w, w)
+  by-operator NotEqual true = (whole, start)
+  by-operator Compatible wildcard = (w, less)
+  by-operator AtMost wildcard = (tt, w)
+  by-operator AtLeast wildcard = (w, tt)
+  by-operator Below wildcard = (tt, w)
+  by-operator Above wildcard = (w, tt)
+
+pub shape-holds : (c : Clause) → Sound c → Holds (lowerEnd (clauseShape c)) × Holds (upperEnd (clauseShape c))
+shape-holds c sound =
+    by-operator (clauseValue c) (record { readable = sound .readable; unlabelled = sound .unlabelled }) (c .operator) (c .wildcard)

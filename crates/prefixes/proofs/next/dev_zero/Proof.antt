@@ -1,8 +1,0 @@
--- `prefixes::next::dev_zero` meets its contract.
--- Assumes nothing.
-use borrow.Author.Needs.{needs}
-use Rattle.prefixes.proofs.next.dev_zero.Statement.{statement}
-use Rattle.prefixes.proofs.next.dev_zero.Tie as tie
-
-pub dev-zero-spec : {M : Type 1} → statement M
-dev-zero-spec = tie.close (tie.spec (λ c κs. search needs) (λ c. cc))

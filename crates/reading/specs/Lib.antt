@@ -1,5 +1,0 @@
-pub mod Label
-pub mod Reading
-pub mod Short
-pub mod Segment
-pub mod Value

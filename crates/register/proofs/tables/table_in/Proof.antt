@@ -1,9 +1,0 @@
--- `register::tables::table_in` meets its contract: a part of what lies behind the start.
--- Assumes nothing.
-use borrow.Author.Needs.{needs}
-use Rattle.register.proofs.Guilty.{part-behind}
-use Rattle.register.proofs.tables.table_in.Statement.{statement}
-use Rattle.register.proofs.tables.table_in.Tie as tie
-
-pub table-in-spec : {M : Type 1} → statement M
-table-in-spec = tie.close (tie.spec (λ c κs. search needs) (λ c κs. search needs) (λ c. search part-behind))

@@ -1,4 +1,0 @@
-pub mod FiguresRead
-pub mod Plains
-pub mod ShortEnds
-pub mod ShortSearch

@@ -1,3 +1,0 @@
-pub mod Plain
-pub mod ShortEnd
-pub mod Lookup

@@ -1,8 +1,0 @@
--- `table::kind::upper_side` meets its contract.
--- Assumes nothing.
-use Rattle.chars.proofs.Cases.{cases}
-use Rattle.table.proofs.kind.upper_side.Statement.{statement}
-use Rattle.table.proofs.kind.upper_side.Tie as tie
-
-pub upper-side-spec : {M : Type 1} → statement M
-upper-side-spec = tie.close (tie.spec (λ c. search cases) (λ c. rw (c .match .keys2)) (λ c. search cases))

@@ -1,8 +1,0 @@
-// Range tables: their records, reading them, and looking a version up.
-pub mod body;
-pub mod bytes;
-pub mod end_at;
-pub mod kind;
-pub mod lookup;
-pub mod record;
-pub mod search;

@@ -1,0 +1,95 @@
+// Writing the records of a table.
+use decimal::put::put_byte;
+use list_ends::end::End;
+use list_ends::end::Side;
+use version_normal::text::put_version;
+ghost use mathlib.Core.Path.{_≡_};
+ghost use mathlib.Core.List.{_++_};
+ghost use Rattle.decimal.specs.Put.{Put};
+ghost use Rattle.list_ends.specs.End.{placeOf};
+ghost use Rattle.table_reading.specs.Record.{twoBytes, recordText};
+ghost use Rattle.table_reading.specs.Text.{lowerKind, upperKind};
+ghost use Rattle.table_compile.specs.Body.{endText};
+
+// A number in two bytes, the lower first.
+fn put_two(buf: &mut [u8], at: usize, n: usize) -> usize
+    ensures { λ r. ⌜ Put 2 (now (buf .entry)) at (twoBytes n) (now (buf .exit)) r ⌝ }
+{
+    let second = put_byte(buf, at, (n % 256) as u8);
+    put_byte(buf, second, (n / 256 % 256) as u8)
+}
+
+fn put_head(buf: &mut [u8], at: usize, len: usize, kind: usize) -> usize
+    ensures { λ r. ⌜ Put 4 (now (buf .entry)) at (twoBytes len ++ twoBytes kind) (now (buf .exit)) r ⌝ }
+{
+    let middle = put_two(buf, at, len);
+    put_two(buf, middle, kind)
+}
+
+// The first record, which says how many ranges there are.
+pub(crate) fn put_count(buf: &mut [u8], at: usize, count: usize) -> usize
+    ensures { λ r. ⌜ Put 6 (now (buf .entry)) at (recordText 1 (twoBytes count)) (now (buf .exit)) r ⌝ }
+{
+    let body = put_head(buf, at, 2, 1);
+    put_two(buf, body, count)
+}
+
+fn put_body(buf: &mut [u8], at: usize, end: End) -> usize
+    ensures { λ r. ⌜ Put 1049325 (now (buf .entry)) at (endText end) (now (buf .exit)) r ⌝ }
+{
+    let side = end.side;
+    let version = end.version;
+    match side {
+        Side::Bottom => at,
+        Side::Top => at,
+        Side::Before => put_version(buf, at, b"", version),
+        Side::After => put_version(buf, at, b"", version),
+    }
+}
+
+// At a place so far on that the next might not be said in 64 bits, a first run over no buffer tells the body's length.
+fn put_far_end(buf: &mut [u8], at: usize, kind: usize, end: End) -> usize
+    ensures { λ r. ⌜ Put 1049329 (now (buf .entry)) at (recordText kind (endText end)) (now (buf .exit)) r ⌝ }
+{
+    let mut none = [0u8; 0];
+    let len = put_body(&mut none, 0, end);
+    let body = put_head(buf, at, len, kind);
+    put_body(buf, body, end)
+}
+
+// The body's length stands in front of it: the body comes first, four bytes further on, and tells it.
+pub(crate) fn put_end(buf: &mut [u8], at: usize, kind: usize, end: End) -> usize
+    ensures { λ r. ⌜ Put 1049329 (now (buf .entry)) at (recordText kind (endText end)) (now (buf .exit)) r ⌝ }
+{
+    if 4294967296 < at {
+        return put_far_end(buf, at, kind, end);
+    }
+    let body = at + 4;
+    let next = put_body(buf, body, end);
+    put_head(buf, at, next - body, kind);
+    next
+}
+
+pub(crate) fn lower_kind(end: End) -> usize
+    ensures { λ r. ⌜ r ≡ lowerKind (placeOf end) ⌝ }
+{
+    let side = end.side;
+    match side {
+        Side::Bottom => 2,
+        Side::Top => 2,
+        Side::Before => 3,
+        Side::After => 4,
+    }
+}
+
+pub(crate) fn upper_kind(end: End) -> usize
+    ensures { λ r. ⌜ r ≡ upperKind (placeOf end) ⌝ }
+{
+    let side = end.side;
+    match side {
+        Side::Bottom => 5,
+        Side::Top => 5,
+        Side::Before => 6,
+        Side::After => 7,
+    }
+}

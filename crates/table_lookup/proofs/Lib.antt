@@ -1,0 +1,4 @@
+pub mod FiguresRead
+pub mod Plains
+pub mod PlainEnds
+pub mod PlainSearch

@@ -1,0 +1,25 @@
+-- `table_lookup::plain::after_second` meets its contract: one law for each count.
+-- Assumes nothing.
+use Rattle.table_lookup.proofs.Plains.{head-two, head-three, head-four}
+use borrow.Author.Needs.{needs}
+use Rattle.table_lookup.proofs.plain.after_second.Statement.{statement}
+use Rattle.table_lookup.proofs.plain.after_second.Tie as tie
+
+pub after-second-spec : {M : Type 1} → statement M
+after-second-spec =
+    tie.close
+    (tie.spec
+    (λ c. search needs)
+    (λ c κs. search needs)
+    (λ c. search needs)
+    (λ c. search needs)
+    (λ c κs. search needs)
+    (λ c. search head-two)
+    (λ c. search needs)
+    (λ c κs. search needs)
+    (λ c. search needs)
+    (λ c. search needs)
+    (λ c κs. search needs)
+    (λ c. search head-three)
+    (λ c κs. search needs)
+    (λ c. search head-four))

@@ -1,0 +1,16 @@
+-- `table_lookup::plain::pre_of` meets its contract.
+-- Assumes nothing.
+use Rattle.table_lookup.proofs.Plains.{pre-none, pre-is}
+use borrow.Author.Needs.{needs}
+use Rattle.table_lookup.proofs.plain.pre_of.Statement.{statement}
+use Rattle.table_lookup.proofs.plain.pre_of.Tie as tie
+
+pub pre-of-spec : {M : Type 1} → statement M
+pre-of-spec =
+    tie.close
+    (tie.spec
+    (λ c κs. search needs)
+    (λ c. search needs)
+    (λ c. search needs)
+    (λ c. search pre-none)
+    (λ c. search pre-is))

@@ -1,0 +1,12 @@
+pub mod Anchors
+pub mod Numbers
+pub mod Records
+pub mod Bodies
+pub mod Written
+pub mod Reading
+pub mod Searching
+pub mod Places
+pub mod Lookups
+pub mod EndsRead
+pub mod Tables
+pub mod Answers

@@ -1,0 +1,43 @@
+-- The bytes of a table: a record with the count, then two records for each range.
+use mathlib.Core.List.{List, [], _∷_, _++_}
+use Prim.Native.Nat.{ℕ}
+use lib.ListN.{length}
+use Rattle.ranges.specs.Cut.{bot, top, before, after}
+use Rattle.ranges.specs.Range.{Range}
+use Rattle.version_roundtrip.specs.Text.{valueText}
+use Rattle.list_ends.specs.Cut.{Place}
+use Rattle.table_reading.specs.Record.{twoBytes, recordText}
+
+-- 2 none below, 3 before V, 4 after V
+abbrev pub lowerKind : Place → ℕ
+lowerKind bot = 2
+lowerKind top = 2
+lowerKind (before v) = 3
+lowerKind (after v) = 4
+
+-- 5 none above, 6 before V, 7 after V
+abbrev pub upperKind : Place → ℕ
+upperKind bot = 5
+upperKind top = 5
+upperKind (before v) = 6
+upperKind (after v) = 7
+
+-- V's normal text, where there is a V
+abbrev pub bodyText : Place → List ℕ
+bodyText bot = []
+bodyText top = []
+bodyText (before v) = valueText v
+bodyText (after v) = valueText v
+
+abbrev pub lowerText : Place → List ℕ
+lowerText p = recordText (lowerKind p) (bodyText p)
+
+abbrev pub upperText : Place → List ℕ
+upperText p = recordText (upperKind p) (bodyText p)
+
+unfoldable pub rangesText : List (Range Place) → List ℕ
+rangesText [] = []
+rangesText (r ∷ T) = lowerText (r .lo) ++ (upperText (r .hi) ++ rangesText T)
+
+unfoldable pub tableText : List (Range Place) → List ℕ
+tableText T = recordText 1 (twoBytes (length T)) ++ rangesText T

@@ -1,0 +1,7 @@
+// Range tables: their records, reading them, and looking a version up.
+pub mod body;
+pub mod end_at;
+pub mod kind;
+pub mod lookup;
+pub mod record;
+pub mod search;

@@ -1,3 +1,0 @@
-pub mod Shorts
-pub mod Tells
-pub mod Words

@@ -1,0 +1,5 @@
+pub mod Label
+pub mod Reading
+pub mod Plain
+pub mod Segment
+pub mod Value

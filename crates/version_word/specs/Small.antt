@@ -1,0 +1,61 @@
+-- Small versions, and the word of one.
+use mathlib.Core.Bool.{Bool, true, false, _&&_}
+use mathlib.Core.List.{List, [], _∷_}
+use mathlib.Core.Option.{Option, none, some}
+use Prim.Native.Nat.{ℕ, _+_, _*_, _^_}
+use lib.Dec.{eqb, leb}
+use lib.ListN.{length, getD}
+use Rattle.version_parts.specs.declared.fields.Pre.{Pre}
+use Rattle.version_parts.specs.declared.fields.Pre.the-variants.{Absent as NoPre, Is as IsPre}
+use Rattle.version_parts.specs.declared.fields.MaybeNumber.{MaybeNumber}
+use Rattle.version_parts.specs.declared.fields.MaybeNumber.the-variants.{Absent as NoPart, Is as IsPart}
+use Rattle.version_reading.specs.Value.{LocalSegment, Value}
+use Rattle.version_order.specs.Key.{kindOf}
+
+-- at most four release numbers, the first at most 65535 and the others at most 255
+unfoldable pub smallRelease : List ℕ → Bool
+smallRelease r =
+    leb (length r) 4
+    && (leb (getD r 0 0) 65535 && (leb (getD r 1 0) 255 && (leb (getD r 2 0) 255 && leb (getD r 3 0) 255)))
+
+-- the number of a suffix, where neither of two others is there
+abbrev pub alone : ℕ → MaybeNumber → MaybeNumber → Option ℕ
+alone n NoPart NoPart = some n
+alone n NoPart (IsPart m) = none
+alone n (IsPart m) b = none
+
+-- the number of the only suffix, 0 where there is none; nothing, where there are two and more
+abbrev pub onlySuffix : Pre → MaybeNumber → MaybeNumber → Option ℕ
+onlySuffix (IsPre kind n) post dev = alone n post dev
+onlySuffix NoPre (IsPart n) dev = alone n NoPart dev
+onlySuffix NoPre NoPart (IsPart n) = some n
+onlySuffix NoPre NoPart NoPart = some 0
+
+-- at most one of pre, post, dev, its number at most 2097151
+abbrev pub smallSuffix : Option ℕ → Bool
+smallSuffix none = false
+smallSuffix (some n) = leb n 2097151
+
+abbrev pub noLabel : List LocalSegment → Bool
+noLabel [] = true
+noLabel (x ∷ l) = false
+
+unfoldable pub isSmall : Value → Bool
+isSmall v =
+    eqb (v .epoch) 0
+    && (smallRelease (v .release) && (smallSuffix (onlySuffix (v .pre) (v .post) (v .dev)) && noLabel (v .label)))
+
+abbrev pub orZero : Option ℕ → ℕ
+orZero none = 0
+orZero (some n) = n
+
+-- first·2^48 + second·2^40 + third·2^32 + fourth·2^24, 0 where there is none
+unfoldable pub releaseWord : List ℕ → ℕ
+releaseWord r = getD r 0 0 * 2 ^ 48 + getD r 1 0 * 2 ^ 40 + getD r 2 0 * 2 ^ 32 + getD r 3 0 * 2 ^ 24
+
+-- and kind·2^21 + suffix number
+unfoldable pub wordOf : Value → ℕ
+wordOf v =
+    releaseWord (v .release)
+    + kindOf (v .pre) (v .post) (v .dev) * 2 ^ 21
+    + orZero (onlySuffix (v .pre) (v .post) (v .dev))
