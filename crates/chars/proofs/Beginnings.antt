@@ -1,4 +1,4 @@
--- Laws of lower case, beginnings and spellings: one step of the comparison, and what a beginning's length says of a choice.
+-- Laws of lower case and beginnings: one step of the comparison, and what a beginning's length says.
 -- Assumes nothing.
 use mathlib.Core.Path.{_≡_, refl, _∙_, sym, ap}
 use mathlib.Core.Bool.{Bool, true, false, cond}
@@ -9,11 +9,6 @@ use native.Mathlib.Omega.{arith}
 use lib.ListN.{length, getD, drop, drop-of-length-le}
 use lib.Seq.{drop-cons}
 use borrow.Author.Tests.{eq-eqb, ne-eqb, le-leb, lt-leb}
-use Rattle.chars.specs.declared.spelling.PreKind.{PreKind}
-use Rattle.chars.specs.declared.spelling.PreSpelling.{PreSpelling}
-use Rattle.chars.specs.declared.spelling.PreSpelling.the-variants.{Found as PreFound}
-use Rattle.chars.specs.declared.spelling.Spelling.{Spelling}
-use Rattle.chars.specs.declared.spelling.Spelling.the-variants.{Found}
 use Rattle.chars.specs.Case.{lowerOf, lowered, startsWith, beginningOf}
 
 -- the ways of `lower`
@@ -74,18 +69,3 @@ module _ (x : ℕ) (w s : List ℕ) (n : ℕ) (e : n ≡ beginningOf (x ∷ w) s
       go : (t : Bool) → startsWith (x ∷ w) s ≡ t → n ≡ cond t (length (x ∷ w)) 0 → startsWith (x ∷ w) s ≡ false
       go true q f = absurd (omega arith)
       go false q f = q
-
-  -- a choice by the beginning: f makes the answer of the length
-  pub chosen : {A : Type 0} (f : ℕ → A) (o : A) → (n ≡ 0 → ⊥) → f n ≡ cond (startsWith (x ∷ w) s) (f (length (x ∷ w))) o
-  chosen f o h = rw (begun h .0, begun h .1)
-
-  pub word-not : {A : Type 0} {y o : A} (a : A) → n ≡ 0 → y ≡ o → y ≡ cond (startsWith (x ∷ w) s) a o
-  word-not a z g = rw (not-begun z) g
-
-pub pre-found : (x : ℕ) (w s : List ℕ) (n : ℕ) (k : PreKind) (o : PreSpelling) → n ≡ beginningOf (x ∷ w) s → (n ≡ 0 → ⊥) →
-    PreFound k n ≡ cond (startsWith (x ∷ w) s) (PreFound k (length (x ∷ w))) o
-pre-found x w s n k o e h = chosen x w s n e (PreFound k) o h
-
-pub found : (x : ℕ) (w s : List ℕ) (n : ℕ) (o : Spelling) → n ≡ beginningOf (x ∷ w) s → (n ≡ 0 → ⊥) →
-    Found n ≡ cond (startsWith (x ∷ w) s) (Found (length (x ∷ w))) o
-found x w s n o e h = chosen x w s n e Found o h

@@ -3,4 +3,5 @@ pub mod Class
 pub mod Place
 pub mod Same
 pub mod Case
+pub mod Words
 pub mod Spelling

@@ -1,6 +1,9 @@
 // The spellings of a version's optional parts, tried in the order of the rules.
 use crate::case::beginning;
-ghost use Rattle.chars.specs.Spelling.{Spelled, PreSpelled, preSpelling, shortPreSpelling, postSpelling, devSpelling};
+use bytes::scan::find;
+ghost use mathlib.Core.Path.{_≡_};
+ghost use Rattle.chars.specs.Words.{WordFound, firstIn, wordsIn};
+ghost use Rattle.chars.specs.Spelling.{Spelled, PreSpelled, preKindOf, preSpelling, spellingOf, postSpelling, devSpelling};
 
 pub enum PreKind {
     Alpha,
@@ -20,75 +23,77 @@ pub enum Spelling {
     Missing,
 }
 
+// Which of several words a text begins with, counted from 0, and how many bytes it has.
+pub enum WordAt {
+    Found(usize, usize),
+    Missing,
+}
+
+// The first word of `words` that `rest` begins with, in either case. One blank stands between two words.
+fn first_word(words: &[u8], rest: &[u8]) -> WordAt
+    ensures { λ r. ⌜ WordFound (now (rest .entry)) (firstIn 0 (wordsIn (now (words .entry))) (now (rest .entry))) r ⌝ }
+{
+    let mut at = 0;
+    let mut which = 0usize;
+    while at < words.len() {
+        let end = find(words, at, words.len(), b' ');
+        let len = beginning(rest, &words[at..end]);
+        if len != 0 {
+            return WordAt::Found(which, len);
+        }
+        if end == words.len() {
+            return WordAt::Missing;
+        }
+        at = end + 1;
+        which += 1;
+    }
+    WordAt::Missing
+}
+
+// The kind that the pre-release spelling number `which` says.
+fn pre_kind(which: usize) -> PreKind
+    ensures { λ r. ⌜ r ≡ preKindOf which ⌝ }
+{
+    match which {
+        0 => PreKind::Alpha,
+        1 => PreKind::Beta,
+        2 => PreKind::Rc,
+        3 => PreKind::Rc,
+        4 => PreKind::Rc,
+        5 => PreKind::Alpha,
+        6 => PreKind::Beta,
+        _ => PreKind::Rc,
+    }
+}
+
 // 'preview' and the long names come before their own beginnings, which would hide them.
 pub fn pre_spelling(rest: &[u8]) -> PreSpelling
     ensures { λ r. ⌜ PreSpelled (now (rest .entry)) (preSpelling (now (rest .entry))) r ⌝ }
 {
-    let alpha = beginning(rest, b"alpha");
-    if alpha != 0 {
-        return PreSpelling::Found(PreKind::Alpha, alpha);
+    match first_word(b"alpha beta preview pre rc a b c", rest) {
+        WordAt::Found(which, len) => PreSpelling::Found(pre_kind(which), len),
+        WordAt::Missing => PreSpelling::Missing,
     }
-    let beta = beginning(rest, b"beta");
-    if beta != 0 {
-        return PreSpelling::Found(PreKind::Beta, beta);
-    }
-    let preview = beginning(rest, b"preview");
-    if preview != 0 {
-        return PreSpelling::Found(PreKind::Rc, preview);
-    }
-    let pre = beginning(rest, b"pre");
-    if pre != 0 {
-        return PreSpelling::Found(PreKind::Rc, pre);
-    }
-    short_pre_spelling(rest)
 }
 
-fn short_pre_spelling(rest: &[u8]) -> PreSpelling
-    ensures { λ r. ⌜ PreSpelled (now (rest .entry)) (shortPreSpelling (now (rest .entry))) r ⌝ }
+// The first of `words` as a spelling that has no kinds.
+fn spelling_of(words: &[u8], rest: &[u8]) -> Spelling
+    ensures { λ r. ⌜ Spelled (now (rest .entry)) (spellingOf (firstIn 0 (wordsIn (now (words .entry))) (now (rest .entry)))) r ⌝ }
 {
-    let rc = beginning(rest, b"rc");
-    if rc != 0 {
-        return PreSpelling::Found(PreKind::Rc, rc);
+    match first_word(words, rest) {
+        WordAt::Found(_, len) => Spelling::Found(len),
+        WordAt::Missing => Spelling::Missing,
     }
-    let a = beginning(rest, b"a");
-    if a != 0 {
-        return PreSpelling::Found(PreKind::Alpha, a);
-    }
-    let b = beginning(rest, b"b");
-    if b != 0 {
-        return PreSpelling::Found(PreKind::Beta, b);
-    }
-    let c = beginning(rest, b"c");
-    if c != 0 {
-        return PreSpelling::Found(PreKind::Rc, c);
-    }
-    PreSpelling::Missing
 }
 
 pub fn post_spelling(rest: &[u8]) -> Spelling
     ensures { λ r. ⌜ Spelled (now (rest .entry)) (postSpelling (now (rest .entry))) r ⌝ }
 {
-    let post = beginning(rest, b"post");
-    if post != 0 {
-        return Spelling::Found(post);
-    }
-    let rev = beginning(rest, b"rev");
-    if rev != 0 {
-        return Spelling::Found(rev);
-    }
-    let r = beginning(rest, b"r");
-    if r != 0 {
-        return Spelling::Found(r);
-    }
-    Spelling::Missing
+    spelling_of(b"post rev r", rest)
 }
 
 pub fn dev_spelling(rest: &[u8]) -> Spelling
     ensures { λ r. ⌜ Spelled (now (rest .entry)) (devSpelling (now (rest .entry))) r ⌝ }
 {
-    let dev = beginning(rest, b"dev");
-    if dev != 0 {
-        return Spelling::Found(dev);
-    }
-    Spelling::Missing
+    spelling_of(b"dev", rest)
 }

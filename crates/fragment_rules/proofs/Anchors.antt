@@ -10,7 +10,7 @@ use Rattle.answers.specs.Refusal.{refusal}
 use Rattle.chars.specs.Text.{ascii}
 use Rattle.chars.specs.Class.{classOf, between, front}
 use Rattle.chars.specs.Case.{lowerOf, startsWith}
-use Rattle.chars.specs.Spelling.{shortPreSpelling, preSpelling, postSpelling, devSpelling}
+use Rattle.chars.specs.Spelling.{preSpelling, postSpelling, devSpelling}
 use Rattle.decimal.specs.Parse.{digitOf, valueFrom, numberOf, leadingOf}
 use Rattle.version_parts.specs.Places.{separatorEnd, numberAt, markedNumber}
 use Rattle.version_parts.specs.Head.{leadEnd, releaseFrom, headAt, headOf}
@@ -31,7 +31,7 @@ after es = saidBy (runFrom fresh es)
 -- where this unfolds, all that a reader computes with does
 everything : List Event → Answer
 unfolding saidBy runFrom taken versionOf patternAs headOf headAt leadEnd releaseFrom afterRelease suffixAt preAt postAt spelledPost devAt
-    afterSuffix labelAt segmentsFrom wordEnd separatorEnd numberAt markedNumber numberOrZero preSpelling shortPreSpelling postSpelling
+    afterSuffix labelAt segmentsFrom wordEnd separatorEnd numberAt markedNumber numberOrZero preSpelling postSpelling
     devSpelling startsWith leadingOf numberOf valueFrom digitOf front between classOf lowerOf
 everything es = after es
 

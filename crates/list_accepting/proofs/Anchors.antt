@@ -7,7 +7,7 @@ use Rattle.answers.specs.Refusal.{refusal}
 use Rattle.chars.specs.Text.{ascii}
 use Rattle.chars.specs.Class.{classOf, between, front}
 use Rattle.chars.specs.Case.{lowerOf, startsWith}
-use Rattle.chars.specs.Spelling.{shortPreSpelling, preSpelling, postSpelling, devSpelling}
+use Rattle.chars.specs.Spelling.{preSpelling, postSpelling, devSpelling}
 use Rattle.decimal.specs.Parse.{digitOf, valueFrom, numberOf, leadingOf}
 use Rattle.version_parts.specs.Places.{separatorEnd, numberAt, markedNumber}
 use Rattle.version_parts.specs.Head.{leadEnd, releaseFrom, afterEpoch, headAt, headOf}
@@ -63,6 +63,6 @@ pub worked : map (λ p. accepted (ascii (p .list)) (ascii (p .version))) points 
 unfolding accepted holds listOf clausesFrom clauseAt commaAfter clauseOf trimmedClause patternClause judged trimmedLength beforeComma operatorOf
     orderOf prefixMatches comparePublic compareKey compareRelease valueOf versionOf patternAs starred headOf headAt leadEnd releaseFrom afterEpoch
     afterRelease suffixAt preAt postAt spelledPost devAt afterSuffix labelAt segmentsFrom wordEnd separatorEnd numberAt markedNumber
-    numberOrZero preSpelling shortPreSpelling postSpelling devSpelling startsWith leadingOf numberOf valueFrom digitOf front between classOf
+    numberOrZero preSpelling postSpelling devSpelling startsWith leadingOf numberOf valueFrom digitOf front between classOf
     lowerOf
 worked = refl

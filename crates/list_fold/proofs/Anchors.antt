@@ -7,7 +7,7 @@ use Prim.Native.String.{String}
 use Rattle.chars.specs.Text.{ascii}
 use Rattle.chars.specs.Class.{classOf, between, front}
 use Rattle.chars.specs.Case.{lowerOf, startsWith}
-use Rattle.chars.specs.Spelling.{shortPreSpelling, preSpelling, postSpelling, devSpelling}
+use Rattle.chars.specs.Spelling.{preSpelling, postSpelling, devSpelling}
 use Rattle.decimal.specs.Parse.{digitOf, valueFrom, numberOf, leadingOf}
 use Rattle.ranges.specs.Range.{Range}
 use Rattle.version_parts.specs.Places.{separatorEnd, numberAt, markedNumber}
@@ -54,7 +54,7 @@ points =
 
 pub points-hold : map (λ p. numbered (ascii (p .list))) points ≡ map (λ p. p .ranges) points
 unfolding patternAs headOf headAt afterEpoch leadEnd releaseFrom starred afterRelease suffixAt preAt postAt spelledPost devAt afterSuffix
-    labelAt segmentsFrom wordEnd separatorEnd numberAt markedNumber numberOrZero preSpelling shortPreSpelling postSpelling devSpelling
+    labelAt segmentsFrom wordEnd separatorEnd numberAt markedNumber numberOrZero preSpelling postSpelling devSpelling
     startsWith leadingOf numberOf valueFrom digitOf front between classOf lowerOf valueOf compareRelease compareKey comparePublic nextEpoch nextFields
     orderOf operatorOf trimmedLength beforeComma judged patternClause trimmedClause clauseOf commaAfter clauseAt clauseIn clausesFrom listOf
     endFrom endNumber numbered

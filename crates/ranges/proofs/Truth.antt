@@ -1,4 +1,4 @@
--- Tests and what they cond: case analysis on a test that a value depends on, and the truth tables that the library lacks.
+-- Tests and what they pick: case analysis on a test that a value depends on, and the truth tables that the library lacks.
 -- Assumes nothing.
 use mathlib.Core.Path.{_≡_, refl, sym}
 use mathlib.Core.Bool.{Bool, true, false, not, cond, _&&_, _||_}

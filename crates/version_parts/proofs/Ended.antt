@@ -9,7 +9,7 @@ use lib.Dec.{eqb}
 use lib.ListN.{length, getD, drop, drop-of-length-le, List·getD-eq-default}
 use Rattle.chars.specs.Class.{classOf, front}
 use Rattle.chars.specs.Case.{startsWith, beginningOf}
-use Rattle.chars.specs.Spelling.{preSpelling, shortPreSpelling, postSpelling, devSpelling}
+use Rattle.chars.specs.Spelling.{preSpelling, postSpelling, devSpelling}
 use Rattle.decimal.specs.Parse.{leadingOf}
 use Rattle.version_parts.specs.declared.fields.Pre.the-variants.{Absent as NoPre}
 use Rattle.version_parts.specs.declared.fields.MaybeNumber.the-variants.{Absent as NoPart}
@@ -45,7 +45,7 @@ module _ (s : List ℕ) (at : ℕ) (h : length s ≤ at) where
   no-separator = rw (zero-there s at h)
 
   pre-ended : preAt s at ≡ PreIs NoPre at
-  unfolding preAt preSpelling shortPreSpelling beginningOf startsWith
+  unfolding preAt preSpelling beginningOf startsWith
   pre-ended = rw (no-separator, gone s at h)
 
   post-ended : postAt s at ≡ PartIs NoPart at

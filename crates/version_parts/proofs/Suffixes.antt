@@ -12,7 +12,7 @@ use Rattle.chars.specs.declared.spelling.PreSpelling.{PreSpelling}
 use Rattle.chars.specs.declared.spelling.PreSpelling.the-variants.{Found as PreFound, Missing as PreMissing}
 use Rattle.chars.specs.declared.spelling.Spelling.{Spelling}
 use Rattle.chars.specs.declared.spelling.Spelling.the-variants.{Found, Missing}
-use Rattle.chars.specs.Spelling.{preSpelling, preLength, plainLength}
+use Rattle.chars.specs.Spelling.{preSpelling, preLength, spellingLength}
 use Rattle.chars.proofs.Parts.{take-rest}
 use Rattle.version_parts.specs.declared.fields.Pre.{Pre}
 use Rattle.version_parts.specs.declared.fields.Pre.the-variants.{Absent as NoPre, Is as IsPre}
@@ -98,19 +98,19 @@ module _ (s : List ℕ) (at from : ℕ) where
     pub pre-fits : from ≤ max at (length s) → at ≤ length s → length s < 2 ^ 64 → Fits w64 (from + len)
     pre-fits g k l = record { fits = omega (arith, pre-ends g k) }
 
-  pub plain-ends : (r : Spelling) → plainLength r ≤ length (take (length s - from) (drop from s)) → from ≤ max at (length s) → at ≤ length s →
-      from + plainLength r ≤ length s
-  plain-ends r h g k = rest-ends (plainLength r) h g k
+  pub plain-ends : (r : Spelling) → spellingLength r ≤ length (take (length s - from) (drop from s)) → from ≤ max at (length s) → at ≤ length s →
+      from + spellingLength r ≤ length s
+  plain-ends r h g k = rest-ends (spellingLength r) h g k
 
 -- the spelling r of a part was looked for at `from`
 module _ (s : List ℕ) (at from : ℕ) (r : Spelling) where
   pub part-none : r ≡ Missing → PartIs NoPart at ≡ partFrom s at from r
   part-none f = rw f
 
-  pub found-ends : (len : ℕ) → from + plainLength r ≤ length s → r ≡ Found len → from + len ≤ length s
+  pub found-ends : (len : ℕ) → from + spellingLength r ≤ length s → r ≡ Found len → from + len ≤ length s
   found-ends len h f = rw f at h
 
-  pub found-fits : (len : ℕ) → from + plainLength r ≤ length s → r ≡ Found len → length s < 2 ^ 64 → Fits w64 (from + len)
+  pub found-fits : (len : ℕ) → from + spellingLength r ≤ length s → r ≡ Found len → length s < 2 ^ 64 → Fits w64 (from + len)
   found-fits len h f k = record { fits = omega (arith, found-ends len h f) }
 
   module _ (len : ℕ) (c : Count) (f : r ≡ Found len) (g : c ≡ numberOrZero s (from + len)) where

@@ -12,7 +12,7 @@ use chars::spelling::post_spelling;
 use chars::spelling::pre_spelling;
 ghost use Prim.Native.Nat.{_+_, _≤_};
 ghost use lib.ListN.{length};
-ghost use Rattle.chars.specs.Spelling.{plainLength};
+ghost use Rattle.chars.specs.Spelling.{spellingLength};
 ghost use Rattle.version_parts.specs.Suffix.{CountRead, PreRead, PartRead, SuffixRead, numberOrZero, preAt, partFrom, spelledPost, postAt, devAt, suffixAt};
 
 // The number of a part: its value and the place behind it, or the place of a number of 2^64 and more.
@@ -65,7 +65,7 @@ fn read_pre(s: &[u8], at: usize) -> PreStep
 
 // A part whose spelling was looked for at from. Where there is none, the cursor is the old one, before the separator.
 fn read_spelled(s: &[u8], at: usize, from: usize, spelling: Spelling) -> PartStep
-    requires { ⌜ (at ≤ length (now s)) × (from + plainLength spelling ≤ length (now s)) ⌝ }
+    requires { ⌜ (at ≤ length (now s)) × (from + spellingLength spelling ≤ length (now s)) ⌝ }
     ensures { λ r. ⌜ PartRead (now (s .entry)) (partFrom (now (s .entry)) at from spelling) r ⌝ }
 {
     let Spelling::Found(len) = spelling else {

@@ -18,7 +18,7 @@ use Rattle.chars.specs.declared.spelling.PreKind.the-variants.{Alpha, Beta, Rc}
 use Rattle.chars.specs.declared.spelling.PreSpelling.the-variants.{Found as PreFound, Missing as PreMissing}
 use Rattle.chars.specs.declared.spelling.Spelling.{Spelling}
 use Rattle.chars.specs.declared.spelling.Spelling.the-variants.{Found, Missing}
-use Rattle.chars.specs.Spelling.{shortPreSpelling, preSpelling, postSpelling, devSpelling}
+use Rattle.chars.specs.Spelling.{preSpelling, postSpelling, devSpelling}
 use Rattle.chars.proofs.Beginnings.{lower-under}
 use Rattle.decimal.specs.Digits.{decimal}
 use Rattle.decimal.specs.Parse.{digitsOf}
@@ -75,7 +75,7 @@ bared rest = drop (separated rest) rest
 
 -- the spelling of a part that is not there is not found behind the separator of the next part
 no-pre : (post dev : MaybeNumber) (label : List LocalSegment) → preSpelling (bared (fromPost post dev label)) ≡ PreMissing
-unfolding classOf startsWith lowerOf preSpelling shortPreSpelling
+unfolding classOf startsWith lowerOf preSpelling
 no-pre (IsPart n) dev label = refl
 no-pre NoPart (IsPart n) label = refl
 no-pre NoPart NoPart [] = refl
@@ -109,7 +109,7 @@ no-letter x w h = begins-with-digit (λ s. startsWith (x ∷ w) s ≡ false) (λ
 
 kind-here : (kind : PreKind) (n : ℕ) (rest : List ℕ) →
     preSpelling (kindText kind ++ (decimal n ++ rest)) ≡ PreFound kind (length (kindText kind))
-unfolding preSpelling shortPreSpelling startsWith lowerOf
+unfolding preSpelling startsWith lowerOf
 kind-here Alpha n rest = rw (no-letter (code "l") (ascii "pha") (omega arith) n rest)
 kind-here Beta n rest = rw (no-letter (code "e") (ascii "ta") (omega arith) n rest)
 kind-here Rc n rest = refl

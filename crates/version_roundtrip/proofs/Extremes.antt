@@ -9,7 +9,7 @@ use Rattle.answers.specs.Refusal.{refusal}
 use Rattle.chars.specs.Text.{ascii}
 use Rattle.chars.specs.Class.{classOf, between, front}
 use Rattle.chars.specs.Case.{lowerOf, lowered, startsWith}
-use Rattle.chars.specs.Spelling.{shortPreSpelling, preSpelling, postSpelling, devSpelling}
+use Rattle.chars.specs.Spelling.{preSpelling, postSpelling, devSpelling}
 use Rattle.decimal.specs.Digits.{digits, decimal}
 use Rattle.decimal.specs.Parse.{digitOf, valueFrom, numberOf, leadingOf}
 use Rattle.version_reading.specs.declared.text.Verdict.{Verdict}
@@ -42,7 +42,7 @@ pub record Grown (s : List ℕ) (from to : ℕ) : Type 0 where
 -- where this unfolds, all that reading and normal text compute with does
 unfoldable pub computed : List ℕ → Verdict × List ℕ
 unfolding versionOf patternAs headOf headAt leadEnd releaseFrom afterRelease suffixAt preAt postAt spelledPost devAt afterSuffix
-    labelAt segmentsFrom wordEnd separatorEnd numberAt markedNumber numberOrZero preSpelling shortPreSpelling postSpelling devSpelling
+    labelAt segmentsFrom wordEnd separatorEnd numberAt markedNumber numberOrZero preSpelling postSpelling devSpelling
     startsWith leadingOf numberOf valueFrom digitOf front between classOf lowerOf normalText versionText frontText backText epochText
     releaseText joined dotted labelText segmentText segmentOf segmentBytes lowered decimal digits
 computed s = (versionOf s .verdict, normalText s)

@@ -18,7 +18,7 @@ use Rattle.chars.specs.declared.spelling.PreSpelling.{PreSpelling}
 use Rattle.chars.specs.declared.spelling.PreSpelling.the-variants.{Found as PreFound, Missing as PreMissing}
 use Rattle.chars.specs.declared.spelling.Spelling.{Spelling}
 use Rattle.chars.specs.declared.spelling.Spelling.the-variants.{Found, Missing}
-use Rattle.chars.specs.Spelling.{tried, shortPreSpelling, preSpelling, triedPlain, postSpelling, devSpelling}
+use Rattle.chars.specs.Spelling.{tried, preSpelling, triedWord, postSpelling, devSpelling}
 use Rattle.decimal.specs.Digits.{digits, decimal}
 use Rattle.version_parts.specs.declared.fields.Pre.{Pre}
 use Rattle.version_parts.specs.declared.fields.MaybeNumber.{MaybeNumber}
@@ -101,7 +101,7 @@ tried-sound word kind s next h g =
     by-cond (PreSpellingSound s) (startsWith (ascii word) s) (λ e. (h, word-within (ascii word) s e)) (λ e. g)
 
 pre-spelling-sound : (s : List ℕ) → PreSpellingSound s (preSpelling s)
-unfolding preSpelling shortPreSpelling
+unfolding preSpelling
 pre-spelling-sound s =
     tried-sound "alpha" Alpha s _ (omega arith)
     (tried-sound "beta" Beta s _ (omega arith)
@@ -118,7 +118,7 @@ SpellingSound least s (Found len) = (least ≤ len) × (len ≤ length s)
 SpellingSound least s Missing = Unit {0}
 
 plain-sound : (least : ℕ) (word : String) (s : List ℕ) (next : Spelling) → least ≤ length (ascii word) → SpellingSound least s next →
-    SpellingSound least s (triedPlain word s next)
+    SpellingSound least s (triedWord word s next)
 plain-sound least word s next h g =
     by-cond (SpellingSound least s) (startsWith (ascii word) s) (λ e. (h, word-within (ascii word) s e)) (λ e. g)
 
