@@ -4,17 +4,16 @@ use mathlib.Core.Path.{_≡_, refl, sym, _∙_, ap}
 use mathlib.Core.Logic.{_↔_}
 use mathlib.Core.Bool.{Bool, true, false, cond}
 use mathlib.Core.List.{List, [], _∷_, _++_, append-assoc}
-use Prim.Native.Nat.{ℕ, suc, _+_, _*_, _/_, _%_, _-_, _≤_, _<_}
+use Prim.Native.Nat.{ℕ, _+_, _*_, _/_, _%_, _-_, _≤_, _<_}
 use native.Mathlib.Numerals.{add-one}
 use native.Mathlib.Omega.{arith}
 use lib.Dec.{leb, ltb}
-use lib.ListN.{length, getD, take, drop, length-take, length-drop, take-append-drop}
+use lib.ListN.{length, getD, drop, length-drop, take-append-drop}
 use lib.Seq.{drop-cons, drop-drop, length-take-le}
 use borrow.Author.Tests.{leb-true, ltb-false}
 use Rattle.records.specs.declared.record.RecordAt.the-variants.{Found, Cut, Nothing}
 use Rattle.records.specs.Record.{twoBytes, twoAt, headText, recordText, recordAt, bodyOf}
 use Rattle.records.proofs.Reading.{record-past}
-use Rattle.records.proofs.Readback.{Here}
 
 two-again : (low high : ℕ) → low < 256 → high < 256 → twoBytes (low + 256 * high) ≡ low ∷ high ∷ []
 unfolding twoBytes
