@@ -27,7 +27,7 @@ use Rattle.table_reading.specs.declared.kind.Due.{Due}
 use Rattle.table_reading.specs.declared.kind.Due.the-variants.{Lower as IsLower, Upper as IsUpper}
 use Rattle.table_reading.specs.declared.kind.Kind.{Kind}
 use Rattle.table_reading.specs.declared.kind.Kind.the-variants.{Count, End, Unknown}
-use Rattle.table_reading.specs.Kind.{count, noneBelow, fromBefore, fromAfter, noneAbove, toBefore, toAfter, kindOf}
+use Rattle.table_reading.specs.Kind.{rangeCount, noneBelow, fromBefore, fromAfter, noneAbove, toBefore, toAfter, kindOf}
 use Rattle.chars.specs.Same.{sameBytes}
 use Rattle.table_reading.specs.Body.{inNormalText, versionIn, at, bare, endOf}
 use Rattle.table_reading.specs.Table.{endDue, ascends, Ended, above, endIn}
@@ -93,7 +93,7 @@ at-after IsUpper body = at-is Upper after (λ v w. w) (versionIn body) (version-
 kind-is : (number : ℕ) → KindIs (kindOf number)
 unfolding kindOf
 kind-is number =
-    by-cond KindIs (eqb number count) (λ e. tt)
+    by-cond KindIs (eqb number rangeCount) (λ e. tt)
     (λ n1. by-cond KindIs (eqb number noneBelow) (λ e body. bare-is Lower bot body tt)
     (λ n2. by-cond KindIs (eqb number fromBefore) (λ e. at-before IsLower)
     (λ n3. by-cond KindIs (eqb number fromAfter) (λ e. at-after IsLower)

@@ -7,7 +7,7 @@ use borrow.Author.Tests.{ne-eqb}
 use Rattle.list_ends.specs.declared.end.Side.the-variants.{Bottom, Top, Before, After}
 use Rattle.table_reading.specs.declared.kind.Kind.the-variants.{Count, Unknown}
 use Rattle.table_reading.specs.Kind.{
-  count,
+  rangeCount,
   noneBelow,
   fromBefore,
   fromAfter,
@@ -20,7 +20,7 @@ use Rattle.table_reading.specs.Kind.{
 }
 
 module _ (n : ℕ) where
-  pub kind-count : n ≡ count → Count ≡ kindOf n
+  pub kind-count : n ≡ rangeCount → Count ≡ kindOf n
   unfolding kindOf
   kind-count e = rw e
 
@@ -48,7 +48,7 @@ module _ (n : ℕ) where
   unfolding kindOf
   upper-after low high h g = let e : n ≡ toAfter = omega arith in rw e
 
-  pub kind-none : n < count → Unknown ≡ kindOf n
+  pub kind-none : n < rangeCount → Unknown ≡ kindOf n
   unfolding kindOf
   kind-none h = let z : n ≡ 0 = omega arith in rw z
 
@@ -56,7 +56,7 @@ module _ (n : ℕ) where
   unfolding kindOf
   kind-over h =
       rw (
-        ne-eqb n count (λ e. omega arith),
+        ne-eqb n rangeCount (λ e. omega arith),
         ne-eqb n noneBelow (λ e. omega arith),
         ne-eqb n fromBefore (λ e. omega arith),
         ne-eqb n fromAfter (λ e. omega arith),

@@ -10,8 +10,8 @@ use Rattle.table_reading.specs.declared.kind.Kind.{Kind}
 use Rattle.table_reading.specs.declared.kind.Kind.the-variants.{Count, End, Unknown}
 
 -- the count of the ranges
-abbrev pub count : ℕ
-count = 1
+abbrev pub rangeCount : ℕ
+rangeCount = 1
 
 -- a lower end: none below, before V, after V
 abbrev pub noneBelow : ℕ
@@ -41,7 +41,7 @@ upperEnd side = End Upper side
 
 unfoldable pub kindOf : ℕ → Kind
 kindOf number =
-    cond (eqb number count) Count
+    cond (eqb number rangeCount) Count
     (cond (eqb number noneBelow) (lowerEnd Bottom)
     (cond (eqb number fromBefore) (lowerEnd Before)
     (cond (eqb number fromAfter) (lowerEnd After)

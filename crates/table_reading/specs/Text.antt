@@ -7,7 +7,7 @@ use Rattle.ranges.specs.Cut.{bot, top, before, after}
 use Rattle.ranges.specs.Range.{Range}
 use Rattle.version_roundtrip.specs.Text.{valueText}
 use Rattle.list_ends.specs.Cut.{Place}
-use Rattle.table_reading.specs.Kind.{count, noneBelow, fromBefore, fromAfter, noneAbove, toBefore, toAfter}
+use Rattle.table_reading.specs.Kind.{rangeCount, noneBelow, fromBefore, fromAfter, noneAbove, toBefore, toAfter}
 
 abbrev pub lowerKind : Place → ℕ
 lowerKind bot = noneBelow
@@ -39,4 +39,4 @@ rangesText [] = []
 rangesText (r ∷ T) = lowerText (r .lo) ++ (upperText (r .hi) ++ rangesText T)
 
 unfoldable pub tableText : List (Range Place) → List ℕ
-tableText T = recordText count (twoBytes (length T)) ++ rangesText T
+tableText T = recordText rangeCount (twoBytes (length T)) ++ rangesText T

@@ -5,7 +5,7 @@ ghost use Prim.Native.Nat.{_≤_};
 ghost use Rattle.table_reading.specs.Kind.{noneBelow, fromAfter, noneAbove, toAfter, lowerEnd, upperEnd, kindOf, isDue};
 
 // How many ranges there are.
-pub const COUNT: usize = 1;
+pub const RANGE_COUNT: usize = 1;
 
 // The lower ends: none below, before V, after V.
 pub const NONE_BELOW: usize = 2;
@@ -60,7 +60,7 @@ pub fn kind_of(number: usize) -> Kind
     ensures { λ r. ⌜ r ≡ kindOf number ⌝ }
 {
     match number {
-        COUNT => Kind::Count,
+        RANGE_COUNT => Kind::Count,
         NONE_BELOW..=FROM_AFTER => Kind::End(Due::Lower, lower_side(number)),
         NONE_ABOVE..=TO_AFTER => Kind::End(Due::Upper, upper_side(number)),
         _ => Kind::Unknown,
