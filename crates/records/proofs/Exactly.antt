@@ -1,4 +1,4 @@
--- What is read as a record is one, byte for byte; and nothing is there exactly if the text has ended.
+-- What is read as a record is one, byte for byte; a record that is cut is none; and nothing is there exactly if the text has ended.
 -- Assumes nothing.
 use mathlib.Core.Path.{_≡_, refl, sym, _∙_, ap}
 use mathlib.Core.Logic.{_↔_}
@@ -10,10 +10,12 @@ use native.Mathlib.Omega.{arith}
 use lib.Dec.{leb, ltb}
 use lib.ListN.{length, getD, drop, length-drop, take-append-drop}
 use lib.Seq.{drop-cons, drop-drop, length-take-le}
-use borrow.Author.Tests.{leb-true, ltb-false}
+use borrow.Author.Tests.{leb-true, leb-false, ltb-false}
+use Rattle.records.specs.declared.record.RecordAt.{RecordAt}
 use Rattle.records.specs.declared.record.RecordAt.the-variants.{Found, Cut, Nothing}
 use Rattle.records.specs.Record.{twoBytes, twoAt, headText, recordText, recordAt, bodyOf}
 use Rattle.records.proofs.Reading.{record-past}
+use Rattle.records.proofs.Readback.{Here, record-here}
 
 two-again : (low high : ℕ) → low < 256 → high < 256 → twoBytes (low + 256 * high) ≡ low ∷ high ∷ []
 unfolding twoBytes
@@ -28,35 +30,41 @@ module _ (s : List ℕ) where
   one-byte i j e h = rw (e, add-one, drop-cons s i 0)
 
   module _ (at : ℕ) where
-    -- what is known of a place where a record was found
     record FoundAt (kind start next : ℕ) : Type 0 where
       kind-is : kind ≡ twoAt s (at + 2)
       start-is : start ≡ at + 4
       next-is : next ≡ at + 4 + twoAt s at
       within : at + 4 + twoAt s at ≤ length s
 
-    found-at : (kind start next : ℕ) → recordAt s at ≡ Found kind start next → FoundAt kind start next
-    unfolding recordAt
-    found-at kind start next = go (leb (length s) at) (ltb (length s) (at + 4 + twoAt s at)) refl
-      where
-        go : (past cut : Bool) → ltb (length s) (at + 4 + twoAt s at) ≡ cut →
-            cond past Nothing (cond cut Cut (Found (twoAt s (at + 2)) (at + 4) (at + 4 + twoAt s at))) ≡ Found kind start next → FoundAt kind start next
-        go true cut e f = let z : _≡_ {A = ℕ} 0 1 = cc in absurd (omega arith)
-        go false true e f = let z : _≡_ {A = ℕ} 0 1 = cc in absurd (omega arith)
-        go false false e f = record { kind-is = cc; start-is = cc; next-is = cc; within = ltb-false _ _ e }
+    -- what each answer says of the place
+    abbrev Says : RecordAt → Type 0
+    Says (Found kind start next) = FoundAt kind start next
+    Says Cut = at < length s
+    Says Nothing = length s ≤ at
 
-    nothing-ended : recordAt s at ≡ Nothing → length s ≤ at
+    record-says : Says (recordAt s at)
     unfolding recordAt
-    nothing-ended = go (leb (length s) at) (ltb (length s) (at + 4 + twoAt s at)) refl
+    record-says = go (leb (length s) at) (ltb (length s) (at + 4 + twoAt s at)) refl refl
       where
-        go : (past cut : Bool) → leb (length s) at ≡ past →
-            cond past Nothing (cond cut Cut (Found (twoAt s (at + 2)) (at + 4) (at + 4 + twoAt s at))) ≡ Nothing → length s ≤ at
+        go : (past cut : Bool) → leb (length s) at ≡ past → ltb (length s) (at + 4 + twoAt s at) ≡ cut →
+            Says (cond past Nothing (cond cut Cut (Found (twoAt s (at + 2)) (at + 4) (at + 4 + twoAt s at))))
         go true cut e f = leb-true _ _ e
-        go false true e f = let z : _≡_ {A = ℕ} 0 1 = cc in absurd (omega arith)
-        go false false e f = let z : _≡_ {A = ℕ} 0 1 = cc in absurd (omega arith)
+        go false true e f = leb-false _ _ e
+        go false false e f = record { kind-is = refl; start-is = refl; next-is = refl; within = ltb-false _ _ f }
 
     pub nothing-exactly : (recordAt s at ≡ Nothing) ↔ (length s ≤ at)
-    nothing-exactly = (nothing-ended, λ h. sym (record-past s at h))
+    nothing-exactly = (λ e. rw e at record-says, λ h. sym (record-past s at h))
+
+    -- some bytes are there, and they are no record, whatever its kind and its body
+    pub cut-some : recordAt s at ≡ Cut → at < length s
+    cut-some e = rw e at record-says
+
+    pub cut-no-record : recordAt s at ≡ Cut → (kind : ℕ) (body rest : List ℕ) → kind < 65536 → length body < 65536 →
+        Here s at (recordText kind body ++ rest) → ⊥
+    cut-no-record e kind body rest small short here =
+        let found = record-here s at kind body rest here small short in
+        let z : _≡_ {A = ℕ} 0 1 = cc in
+        omega arith
 
     module _ (bytes : (i : ℕ) → getD s i 0 < 256) where
       two-stand : (i : ℕ) → twoBytes (twoAt s i) ≡ getD s i 0 ∷ getD s (i + 1) 0 ∷ []
@@ -79,7 +87,7 @@ module _ (s : List ℕ) where
       pub record-stands : (kind start next : ℕ) → recordAt s at ≡ Found kind start next → drop at s ≡ recordText kind (bodyOf s start next) ++ drop next s
       unfolding recordText
       record-stands kind start next e =
-          let f = found-at kind start next e in
+          let f : FoundAt kind start next = rw e at record-says in
           let b = body-stands (twoAt s at) (f .within) in
           let head = headText (twoAt s at) (twoAt s (at + 2)) in
           rw (f .kind-is, f .start-is, f .next-is, b .0)

@@ -51,7 +51,7 @@ module _ (kind i j k : ℕ) (body a b c : List ℕ) where
       Wrote a i (headText need kind) b j → Wrote b j body c k → Wrote a i (recordText kind body) c k
   measured-put most need none none′ few dry p q = record-put need (whole most body none none′ need dry few) p q
 
--- the body was written first, from behind the head's place on, and its end has told the length
+-- the body was written first, four bytes further on, and its end has told the length
 pub front-put : (most kind i next j : ℕ) (body a b c : List ℕ) → i + 4 + most < farthest → Put most a (i + 4) body b next →
     Put 4 b i (headText (next - (i + 4)) kind) c j → Wrote a i (recordText kind body) c next
 unfolding recordText

@@ -75,7 +75,7 @@ abbrev pub OfSort : Due → Place → Type 0
 OfSort IsLower p = Lower p
 OfSort IsUpper p = Upper p
 
--- whatever the body
+-- what a kind says is such an end, whatever the body
 abbrev KindIs : Kind → Type 0
 KindIs (End end side) = (body : List ℕ) → PlaceIs (OfSort end) (endOf side body)
 KindIs Count = Unit {0}

@@ -60,7 +60,7 @@ abbrev pub onEnd : Option Ended → (Ended → Tabled) → Tabled
 onEnd none more = bad
 onEnd (some e) more = more e
 
--- count ranges from a place on, after an end, lower and upper in turn; the records fill the table exactly
+-- as many ranges as counted, from a place on and after an end, lower and upper in turn; the records fill the table exactly
 unfoldable pub rangesFrom : ℕ → Option Place → List ℕ → ℕ → Tabled
 rangesFrom zero previous s start = cond (eqb start (length s)) (ranges []) bad
 rangesFrom (suc count) previous s start =

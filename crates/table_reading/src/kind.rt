@@ -21,7 +21,7 @@ pub const TO_BEFORE: usize = 6;
 
 pub const TO_AFTER: usize = 7;
 
-// Which end of a range is due.
+// The two ends of a range: the one that is due, or the one that a record holds.
 pub enum Due {
     Lower,
     Upper,
