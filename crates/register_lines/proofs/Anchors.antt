@@ -22,7 +22,7 @@ use Rattle.list_clauses.specs.Clause.{judged, patternClause, trimmedClause, cla
 use Rattle.list_clauses.specs.List.{commaAfter, clauseAt, clausesFrom, listOf}
 use Rattle.list_accepting.specs.Accept.{holds, accepted}
 use Rattle.list_ends.specs.Shape.{rangesOf}
-use Rattle.table_reading.specs.Record.{twoBytes, recordText}
+use Rattle.records.specs.Record.{twoBytes, recordText}
 use Rattle.table_reading.specs.Text.{rangesText, tableText}
 use Rattle.register_entries.specs.Held.{heldOf, entriesIn}
 use Rattle.register_entries.specs.Held.{has}

@@ -10,7 +10,7 @@ use Rattle.chars.specs.Text.{ascii}
 use Rattle.version_reading.specs.Value.{listed, valueOf}
 use Rattle.version_order.specs.Versions.{compareRelease, compareKey, comparePublic}
 use Rattle.version_roundtrip.proofs.Extremes.{computed}
-use Rattle.table_reading.specs.Record.{recordAt}
+use Rattle.records.specs.Record.{recordAt}
 use Rattle.table_reading.specs.Kind.{kindOf}
 use Rattle.table_reading.specs.Body.{versionIn}
 use Rattle.table_reading.specs.Table.{rangesFrom, tableOf}

@@ -1,6 +1,7 @@
 -- The known points hold: all of them, by computation.
 -- Assumes nothing.
 use mathlib.Core.Path.{refl}
+use Rattle.records.specs.Record.{twoBytes, recordText}
 use Rattle.order.specs.All.{All}
 use Rattle.version_reading.specs.Reading.{starred}
 use Rattle.version_reading.specs.Value.{listed, labelFrom, valueOf}
@@ -17,7 +18,6 @@ use Rattle.list_clauses.specs.Clause.{judged, patternClause, trimmedClause, cla
 use Rattle.list_clauses.specs.List.{commaAfter, clauseAt, clausesFrom, listOf}
 use Rattle.list_accepting.specs.Accept.{holds, accepted}
 use Rattle.list_ends.specs.Shape.{rangesOf}
-use Rattle.table_reading.specs.Record.{twoBytes, recordText}
 use Rattle.table_reading.specs.Text.{rangesText, tableText}
 use Rattle.table_agreement.specs.Points.{Holds, points}
 

@@ -1,4 +1,3 @@
-pub mod Records
 pub mod Reread
 pub mod Agreement
 pub mod Sizes

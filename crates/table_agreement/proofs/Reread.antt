@@ -9,6 +9,9 @@ use native.Mathlib.Omega.{arith}
 use lib.ListN.{length}
 use borrow.Author.Tests.{le-ltb, eq-eqb}
 use Rattle.order.specs.All.{All}
+use Rattle.records.specs.Record.{twoBytes, recordText, recordAt}
+use Rattle.records.proofs.Writing.{two-long}
+use Rattle.records.proofs.Readback.{Here, record-next, record-here, body-here, number-here}
 use Rattle.ranges.specs.Cut.{bot, top, before, after}
 use Rattle.ranges.specs.Range.{Range}
 use Rattle.ranges.specs.Table.{Beyond, Asc}
@@ -17,12 +20,11 @@ use Rattle.version_roundtrip.specs.Text.{valueText}
 use Rattle.version_roundtrip.proofs.Unlabelled.{unlabelled-length}
 use Rattle.list_ends.specs.Cut.{Place, lePlace}
 use Rattle.list_ends.specs.Writable.{Writable, Lower, Upper, Written}
-use Rattle.table_reading.specs.declared.kind.Kind.{Kind}
-use Rattle.table_reading.specs.Record.{twoBytes, twoAt, recordText, recordAt}
-use Rattle.table_reading.specs.Kind.{kindOf}
+use Rattle.table_reading.specs.declared.kind.Due.{Due}
+use Rattle.table_reading.specs.declared.kind.Due.the-variants.{Lower as IsLower, Upper as IsUpper}
+use Rattle.table_reading.specs.Kind.{rangeCount, kindOf}
 use Rattle.table_reading.specs.Text.{lowerKind, upperKind, bodyText, upperText, rangesText, tableText}
-use Rattle.table_reading.specs.Table.{lowerOf, upperOf, ascends, Ended, endIn, ranges, rangesFrom, tableOf}
-use Rattle.table_agreement.proofs.Records.{Here, two-here, record-next, record-here, body-here}
+use Rattle.table_reading.specs.Table.{endDue, ascends, Ended, endIn, ranges, rangesFrom, tableOf}
 use Rattle.table_reading.proofs.Written.{version-here}
 
 text-short : (v : Value) → Writable v → length (valueText v) < 65536
@@ -35,35 +37,34 @@ beyond-ascends (some b) p e = rw e
 abbrev ended : Place → ℕ → Option Ended
 ended p next = some (record { place = p; next = next })
 
--- the record of an end, where one of its sort is due
-module _ (due : Kind → List ℕ → Option Place) (kind : ℕ) (p : Place) (short : length (bodyText p) < 65536) (small : kind < 65536)
-    (said : due (kindOf kind) (bodyText p) ≡ some p) (s : List ℕ) (at : ℕ) (rest : List ℕ) (here : Here s at (recordText kind (bodyText p) ++ rest)) where
-  pub end-here : (b : Option Place) → Beyond lePlace b p → endIn due b s (recordAt s at) ≡ ended p (at + 4 + length (bodyText p))
+-- what is said of the record of an end that is due
+record Sort (due : Due) (kind : ℕ) (p : Place) : Type 0 where
+  short : length (bodyText p) < 65536
+  small : kind < 65536
+  said : endDue due (kindOf kind) (bodyText p) ≡ some p
+
+module _ (due : Due) (kind : ℕ) (p : Place) (sort : Sort due kind p) (s : List ℕ) (at : ℕ) (rest : List ℕ)
+    (here : Here s at (recordText kind (bodyText p) ++ rest)) where
+  end-here : (b : Option Place) → Beyond lePlace b p → endIn due b s (recordAt s at) ≡ ended p (at + 4 + length (bodyText p))
   end-here b beyond =
       rw (
-        record-here s at kind (bodyText p) rest small short here,
-        body-here s at kind (bodyText p) rest small short here,
-        said,
+        record-here s at kind (bodyText p) rest here (sort .small) (sort .short),
+        body-here s at kind (bodyText p) rest here,
+        sort .said,
         beyond-ascends b p beyond,
       )
 
-  pub end-next : Here s (at + 4 + length (bodyText p)) rest
-  end-next = record-next s at kind (bodyText p) rest small short here
+  end-next : Here s (at + 4 + length (bodyText p)) rest
+  end-next = record-next s at kind (bodyText p) rest here
 
--- what is said of a sort of end
-record Sort (due : Kind → List ℕ → Option Place) (kind : ℕ) (p : Place) : Type 0 where
-  short : length (bodyText p) < 65536
-  small : kind < 65536
-  said : due (kindOf kind) (bodyText p) ≡ some p
-
-lower-sort : (p : Place) → Lower p → Sort lowerOf (lowerKind p) p
+lower-sort : (p : Place) → Lower p → Sort IsLower (lowerKind p) p
 unfolding kindOf
 lower-sort bot w = record { short = omega arith; small = omega arith; said = refl }
 lower-sort top w = absurd w
 lower-sort (before v) w = record { short = text-short v w; small = omega arith; said = rw (version-here v w) }
 lower-sort (after v) w = record { short = text-short v w; small = omega arith; said = rw (version-here v w) }
 
-upper-sort : (p : Place) → Upper p → Sort upperOf (upperKind p) p
+upper-sort : (p : Place) → Upper p → Sort IsUpper (upperKind p) p
 unfolding kindOf
 upper-sort bot w = absurd w
 upper-sort top w = record { short = omega arith; small = omega arith; said = refl }
@@ -82,37 +83,31 @@ ranges-here s at b (r ∷ T) w asc h =
     let rest = upperText high ++ rangesText T in
     let middle = at + 4 + length (bodyText low) in
     let last = middle + 4 + length (bodyText high) in
-    let upper : Here s middle rest = end-next lowerOf (lowerKind low) low (l .short) (l .small) (l .said) s at rest h in
-    let behind : Here s last (rangesText T) =
-    end-next upperOf (upperKind high) high (u .short) (u .small) (u .said) s middle (rangesText T) upper in
+    let upper : Here s middle rest = end-next IsLower (lowerKind low) low l s at rest h in
+    let after-both : Here s last (rangesText T) =
+    end-next IsUpper (upperKind high) high u s middle (rangesText T) upper in
     rw (
-      end-here lowerOf (lowerKind low) low (l .short) (l .small) (l .said) s at rest h b (asc .0),
-      end-here upperOf (upperKind high) high (u .short) (u .small) (u .said) s middle (rangesText T) upper (some low) (asc .1),
-      ranges-here s last (some high) T (w .1) (asc .2) behind,
+      end-here IsLower (lowerKind low) low l s at rest h b (asc .0),
+      end-here IsUpper (upperKind high) high u s middle (rangesText T) upper (some low) (asc .1),
+      ranges-here s last (some high) T (w .1) (asc .2) after-both,
     )
 
-whole : (T : List (Range Place)) → Here (tableText T) 0 (recordText 1 (twoBytes (length T)) ++ rangesText T)
+whole : (T : List (Range Place)) → Here (tableText T) 0 (recordText rangeCount (twoBytes (length T)) ++ rangesText T)
 unfolding tableText
 whole T = record { left = refl; size = omega arith }
 
-two-long : (n : ℕ) → length (twoBytes n) < 65536
-unfolding twoBytes
-two-long n = omega arith
-
-count-here : (T : List (Range Place)) → length T ≤ 17 → twoAt (tableText T) 4 ≡ length T
-unfolding tableText recordText twoBytes
-count-here T few = two-here (tableText T) 4 (length T) (rangesText T) (omega (arith, few)) refl
-
 pub reread : (T : List (Range Place)) → All Written T → Asc lePlace none T → length T ≤ 17 → tableOf (tableText T) ≡ ranges T
-unfolding tableOf kindOf twoBytes
+unfolding tableOf kindOf
 reread T w asc few =
     let s = tableText T in
     let count = twoBytes (length T) in
-    let h : Here s 0 (recordText 1 count ++ rangesText T) = whole T in
-    let next : Here s 6 (rangesText T) = record-next s 0 1 count (rangesText T) (omega arith) (two-long (length T)) h in
+    let long = two-long (length T) in
+    let h : Here s 0 (recordText rangeCount count ++ rangesText T) = whole T in
+    let next : Here s 6 (rangesText T) = rw long at (record-next s 0 rangeCount count (rangesText T) h) in
     rw (
-      record-here s 0 1 count (rangesText T) (omega arith) (two-long (length T)) h,
-      count-here T few,
+      record-here s 0 rangeCount count (rangesText T) h (omega arith) (omega (arith, long)),
+      long,
+      number-here s 0 rangeCount (length T) (rangesText T) h (omega (arith, few)),
       le-ltb 17 (length T) few,
       ranges-here s 6 none T w asc next,
     )

@@ -1,18 +1,18 @@
 -- The record of one end, as it is written.
 -- Assumes nothing.
-use mathlib.Core.Path.{_≡_, refl, _∙_, ap}
-use mathlib.Core.List.{List, [], _∷_, _++_, append-assoc}
-use Prim.Native.Nat.{ℕ, suc, _+_, _-_, _/_, _%_, _^_, _≤_, _<_}
-use native.Mathlib.Nat.{add-zero}
+use mathlib.Core.Path.{_≡_, sym}
+use mathlib.Core.List.{List, []}
+use Prim.Native.Nat.{ℕ, _^_, _<_}
 use native.Mathlib.Omega.{arith}
-use lib.ListN.{length, set}
-use lib.Seq.{sets, set-comm}
+use lib.ListN.{length}
 use Rattle.decimal.specs.Put.{Wrote, Put}
-use Rattle.decimal.proofs.Puts.{nothing, then, retext, whole}
+use Rattle.decimal.proofs.Puts.{nothing}
+use Rattle.records.specs.Record.{twoBytes, headText, recordText}
+use Rattle.records.proofs.Writing.{two-long, record-put, measured-put}
 use Rattle.version_normal.specs.Normal.{versionText}
 use Rattle.list_ends.specs.declared.end.Side.the-variants.{Bottom, Top, Before, After}
 use Rattle.list_ends.specs.declared.end.End.{End}
-use Rattle.table_reading.specs.Record.{twoBytes, recordText}
+use Rattle.table_reading.specs.Kind.{rangeCount}
 use Rattle.table_compile.specs.Body.{endText}
 
 -- the ways of `put_body`
@@ -29,49 +29,11 @@ module _ (e : End) (a : List ℕ) (i : ℕ) where
   pub body-after : (b : List ℕ) (j : ℕ) → e .side ≡ After → Wrote a i (versionText [] (e .version)) b j → Wrote a i (endText e) b j
   body-after b j f p = rw f p
 
-pub two-put : (n i j k : ℕ) (a b c : List ℕ) → Wrote a i (n % 256 ∷ []) b j → Wrote b j (n / 256 % 256 ∷ []) c k → Wrote a i (twoBytes n) c k
-unfolding twoBytes
-two-put n i j k a b c p q = then p q
+-- the ways of `put_count` and `put_far_end`
+pub count-put : (count i j k : ℕ) (a b c : List ℕ) → Wrote a i (headText 2 rangeCount) b j → Wrote b j (twoBytes count) c k →
+    Wrote a i (recordText rangeCount (twoBytes count)) c k
+count-put count i j k a b c p q = record-put rangeCount i j k (twoBytes count) a b c 2 (sym (two-long count)) p q
 
--- a byte in front of a text may be stored before or after it
-byte-first : (t l : List ℕ) (i j a : ℕ) → i < j → set (sets l j t) i a ≡ sets (set l i a) j t
-byte-first [] l i j a h = refl
-byte-first (b ∷ t) l i j a h =
-    byte-first t (set l j b) i (suc j) a (omega arith) ∙ ap (λ (m : List ℕ). sets m (suc j) t) (set-comm l j i b a (λ e. omega arith))
-
--- a text in front of one that is there already
-front-first : (s t l : List ℕ) (i : ℕ) → sets (sets l (i + length s) t) i s ≡ sets l i (s ++ t)
-front-first [] t l i = rw add-zero
-front-first (a ∷ s) t l i =
-    let place : i + suc (length s) ≡ suc i + length s = omega arith in
-    ap (λ (m : List ℕ). sets m (suc i) s) (byte-first t l i (i + suc (length s)) a (omega arith)) ∙ rw place (front-first s t (set l i a) (suc i))
-
--- a head and a body are a record, where the head says the body's length
-module _ (kind i j k : ℕ) (text a b c : List ℕ) where
-  pub record-put : (n : ℕ) → n ≡ length text → Wrote a i (twoBytes n ++ twoBytes kind) b j → Wrote b j text c k → Wrote a i (recordText kind text) c k
-  unfolding recordText
-  record-put n e p q = retext (append-assoc (twoBytes (length text)) (twoBytes kind) text) (then (rw e at p) q)
-
-  -- the writer of a body, run over no buffer, has told the length
-  pub end-put : (need : ℕ) (none none′ : List ℕ) → Put 1049325 none 0 text none′ need →
-      Wrote a i (twoBytes need ++ twoBytes kind) b j → Wrote b j text c k → Wrote a i (recordText kind text) c k
-  end-put need none none′ dry p q = record-put need (whole 1049325 text none none′ need dry (omega arith)) p q
-
--- the body was written first, and its end has told the length
-pub front-put : (kind i next j : ℕ) (text a b c : List ℕ) → i ≤ 4294967296 → Put 1049325 a (i + 4) text b next →
-    Put 4 b i (twoBytes (next - (i + 4)) ++ twoBytes kind) c j → Wrote a i (recordText kind text) c next
-unfolding recordText twoBytes
-front-put kind i next j text a b c near first second =
-    let moved = first .wrote .moved in
-    let close = first .near in
-    let told : next - (i + 4) ≡ length text = omega arith in
-    record {
-      bytes = second .wrote .bytes ∙ rw (first .wrote .bytes, told) (front-first (twoBytes (length text) ++ twoBytes kind) text a i);
-      moved = omega arith;
-      size = first .wrote .size;
-    }
-
-pub count-put : (count i j k : ℕ) (a b c : List ℕ) → Wrote a i (twoBytes 2 ++ twoBytes 1) b j → Wrote b j (twoBytes count) c k →
-    Wrote a i (recordText 1 (twoBytes count)) c k
-unfolding twoBytes
-count-put count i j k a b c p q = record-put 1 i j k (twoBytes count) a b c 2 refl p q
+pub far-put : (kind need i j k : ℕ) (text none none′ a b c : List ℕ) → Put 1049325 none 0 text none′ need → Wrote a i (headText need kind) b j →
+    Wrote b j text c k → Wrote a i (recordText kind text) c k
+far-put kind need i j k text none none′ a b c dry p q = measured-put kind i j k text a b c 1049325 need none none′ (omega arith) dry p q

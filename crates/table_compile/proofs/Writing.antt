@@ -11,13 +11,14 @@ use Rattle.answers.specs.declared.Measured.the-variants.{Length}
 use Rattle.answers.specs.Printed.{Printed}
 use Rattle.decimal.specs.Put.{Wrote, Put}
 use Rattle.decimal.proofs.Puts.{nothing, then, retext, whole, printed}
+use Rattle.records.specs.Record.{twoBytes, recordText}
 use Rattle.ranges.specs.Range.{Range}
 use Rattle.ranges.specs.Map.{mapRange}
 use Rattle.list_ends.specs.declared.end.End.{End}
 use Rattle.list_ends.specs.Cut.{Place}
 use Rattle.list_ends.specs.End.{placeOf}
 use Rattle.list_ends.specs.Number.{endNumber, placeNumber}
-use Rattle.table_reading.specs.Record.{twoBytes, recordText}
+use Rattle.table_reading.specs.Kind.{rangeCount}
 use Rattle.table_reading.specs.Text.{lowerKind, upperKind, lowerText, upperText, rangesText, tableText}
 use Rattle.table_compile.specs.Body.{endText}
 use Rattle.list_fold.specs.Ranges.{paired}
@@ -79,7 +80,7 @@ module _ (s lows highs : List ℕ) where
   ranges-done {i = i} {count = count} p l m = let all : i ≡ count = omega arith in rw all at p
 
   pub table-put : {a b c : List ℕ} {i j k count : ℕ} → count ≤ length lows → count ≤ length highs →
-      Wrote a i (recordText 1 (twoBytes count)) b j → Wrote b j (rangesText (saidBy s lows highs count)) c k →
+      Wrote a i (recordText rangeCount (twoBytes count)) b j → Wrote b j (rangesText (saidBy s lows highs count)) c k →
       Wrote a i (tableText (saidBy s lows highs count)) c k
   unfolding tableText
   table-put {count = count} l h p q =

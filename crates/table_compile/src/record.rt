@@ -1,36 +1,29 @@
 // Writing the records of a table.
-use decimal::put::put_byte;
 use list_ends::end::End;
 use list_ends::end::Side;
+use records::record::put_head;
+use records::two_bytes::put_two;
+use table_reading::kind::FROM_AFTER;
+use table_reading::kind::FROM_BEFORE;
+use table_reading::kind::NONE_ABOVE;
+use table_reading::kind::NONE_BELOW;
+use table_reading::kind::RANGE_COUNT;
+use table_reading::kind::TO_AFTER;
+use table_reading::kind::TO_BEFORE;
 use version_normal::text::put_version;
 ghost use mathlib.Core.Path.{_≡_};
-ghost use mathlib.Core.List.{_++_};
 ghost use Rattle.decimal.specs.Put.{Put};
+ghost use Rattle.records.specs.Record.{twoBytes, recordText};
 ghost use Rattle.list_ends.specs.End.{placeOf};
-ghost use Rattle.table_reading.specs.Record.{twoBytes, recordText};
+ghost use Rattle.table_reading.specs.Kind.{rangeCount};
 ghost use Rattle.table_reading.specs.Text.{lowerKind, upperKind};
 ghost use Rattle.table_compile.specs.Body.{endText};
 
-// A number in two bytes, the lower first.
-fn put_two(buf: &mut [u8], at: usize, n: usize) -> usize
-    ensures { λ r. ⌜ Put 2 (now (buf .entry)) at (twoBytes n) (now (buf .exit)) r ⌝ }
-{
-    let second = put_byte(buf, at, (n % 256) as u8);
-    put_byte(buf, second, (n / 256 % 256) as u8)
-}
-
-fn put_head(buf: &mut [u8], at: usize, len: usize, kind: usize) -> usize
-    ensures { λ r. ⌜ Put 4 (now (buf .entry)) at (twoBytes len ++ twoBytes kind) (now (buf .exit)) r ⌝ }
-{
-    let middle = put_two(buf, at, len);
-    put_two(buf, middle, kind)
-}
-
 // The first record, which says how many ranges there are.
 pub(crate) fn put_count(buf: &mut [u8], at: usize, count: usize) -> usize
-    ensures { λ r. ⌜ Put 6 (now (buf .entry)) at (recordText 1 (twoBytes count)) (now (buf .exit)) r ⌝ }
+    ensures { λ r. ⌜ Put 6 (now (buf .entry)) at (recordText rangeCount (twoBytes count)) (now (buf .exit)) r ⌝ }
 {
-    let body = put_head(buf, at, 2, 1);
+    let body = put_head(buf, at, 2, RANGE_COUNT);
     put_two(buf, body, count)
 }
 
@@ -75,10 +68,10 @@ pub(crate) fn lower_kind(end: End) -> usize
 {
     let side = end.side;
     match side {
-        Side::Bottom => 2,
-        Side::Top => 2,
-        Side::Before => 3,
-        Side::After => 4,
+        Side::Bottom => NONE_BELOW,
+        Side::Top => NONE_BELOW,
+        Side::Before => FROM_BEFORE,
+        Side::After => FROM_AFTER,
     }
 }
 
@@ -87,9 +80,9 @@ pub(crate) fn upper_kind(end: End) -> usize
 {
     let side = end.side;
     match side {
-        Side::Bottom => 5,
-        Side::Top => 5,
-        Side::Before => 6,
-        Side::After => 7,
+        Side::Bottom => NONE_ABOVE,
+        Side::Top => NONE_ABOVE,
+        Side::Before => TO_BEFORE,
+        Side::After => TO_AFTER,
     }
 }

@@ -14,6 +14,9 @@ use Rattle.order.specs.declared.Order.the-variants.{Less, Equal, Greater}
 use Rattle.order.specs.Answer.{nameOf}
 use Rattle.order.proofs.Ordering.{also-assoc}
 use Rattle.order.proofs.Numbers.{compare-means}
+use Rattle.records.specs.declared.record.RecordAt.{RecordAt}
+use Rattle.records.specs.declared.record.RecordAt.the-variants.{Found}
+use Rattle.records.specs.Record.{recordAt, bodyOf}
 use Rattle.ranges.specs.Range.{within}
 use Rattle.version_reading.specs.declared.plain.PlainReading.{PlainReading}
 use Rattle.version_reading.specs.Plain.{Filled, FilledPlain, notPlain, wholeVersion}
@@ -29,17 +32,16 @@ use Rattle.list_ends.specs.declared.end.Side.the-variants.{Bottom, Top, Before,
 use Rattle.list_ends.specs.Cut.{Place, lePlace}
 use Rattle.list_ends.specs.End.{levelOf, sideOf}
 use Rattle.list_ends.proofs.Sides.{answer, levels-decide, no-versions, version-below, version-above, by-side}
-use Rattle.table_reading.specs.declared.record.RecordAt.{RecordAt}
-use Rattle.table_reading.specs.declared.record.RecordAt.the-variants.{Found}
+use Rattle.table_reading.specs.declared.kind.Due.{Due}
 use Rattle.table_reading.specs.declared.kind.Kind.{Kind}
-use Rattle.table_reading.specs.Record.{recordAt, bodyOf}
-use Rattle.table_reading.specs.Kind.{kindOf}
+use Rattle.table_reading.specs.declared.kind.Kind.the-variants.{End}
+use Rattle.table_reading.specs.Kind.{kindOf, isDue}
 use Rattle.table_reading.specs.Body.{endOf}
 use Rattle.table_reading.specs.Table.{ascends, Ended, above, endIn}
 use Rattle.table_lookup.specs.declared.plain_end.PlainEnd.{PlainEnd}
 use Rattle.table_lookup.specs.declared.plain_end_at.PlainEndAt.{PlainEndAt}
 use Rattle.table_lookup.specs.Plain.{PlainRead}
-use Rattle.table_lookup.specs.PlainEnd.{glanced, wholeEnd, placePlain, plainReached, noPlainEnd, BareRead, BodyRead, PlainEnded}
+use Rattle.table_lookup.specs.PlainEnd.{glanced, wholeEnd, placePlain, plainReached, noPlainFound, BareRead, BodyRead, PlainEnded}
 
 -- how two plain versions compare, and how their first two numbers do
 abbrev between : PlainEnd → PlainEnd → Ordering
@@ -174,7 +176,7 @@ module _ (lo hi c : Place) where
 pub none-filled : (r : PlainReading) → r ≡ notPlain → FilledPlain (r .plain)
 none-filled r e = rw e (Filled.none refl refl refl refl refl)
 
-pub no-end-filled : (e : PlainEndAt) (at : ℕ) → e ≡ noPlainEnd at → FilledPlain (e .end .plain)
+pub no-end-filled : (e : PlainEndAt) (at : ℕ) → e ≡ noPlainFound at → FilledPlain (e .end .plain)
 no-end-filled e at f = rw f (Filled.none refl refl refl refl refl)
 
 -- the ways of `plain_body`
@@ -193,34 +195,34 @@ module _ (s : Side) (body : List ℕ) (b : PlainReading) where
 
 -- the ways of `is_above`
 module _ (p : Place) (last : PlainEndAt) where
-  pub plain-above-none : not (last .there) ≡ true → true ≡ ascends (plainReached last) p
+  pub plain-above-none : not (last .found) ≡ true → true ≡ ascends (plainReached last) p
   unfolding plainReached
-  plain-above-none e = rw (not-true (last .there) e)
+  plain-above-none e = rw (not-true (last .found) e)
 
-  pub plain-above-last : (r : Bool) → not (last .there) ≡ false → r ≡ lePlace p (placePlain (last .end)) → not r ≡ ascends (plainReached last) p
+  pub plain-above-last : (r : Bool) → not (last .found) ≡ false → r ≡ lePlace p (placePlain (last .end)) → not r ≡ ascends (plainReached last) p
   unfolding plainReached placePlain
-  plain-above-last r e f = rw (not-false (last .there) e, f)
+  plain-above-last r e f = rw (not-false (last .found) e, f)
 
-  pub not-above : not (last .there) ≡ false → lePlace p (placePlain (last .end)) ≡ true → false ≡ ascends (plainReached last) p
+  pub not-above : not (last .found) ≡ false → lePlace p (placePlain (last .end)) ≡ true → false ≡ ascends (plainReached last) p
   not-above e f = plain-above-last true e (sym f)
 
-  pub well-above : not (last .there) ≡ false → lePlace p (placePlain (last .end)) ≡ false → true ≡ ascends (plainReached last) p
+  pub well-above : not (last .found) ≡ false → lePlace p (placePlain (last .end)) ≡ false → true ≡ ascends (plainReached last) p
   well-above e f = plain-above-last false e (sym f)
 
 -- no end, of which nothing is said
-pub unended : (spec : Option Ended) (r : PlainEndAt) (at : ℕ) → r ≡ noPlainEnd at → PlainEnded spec r
+pub unended : (spec : Option Ended) (r : PlainEndAt) (at : ℕ) → r ≡ noPlainFound at → PlainEnded spec r
 unended spec r at e = rw e (record { is = λ f. absurd (false≢true f); filled = Filled.none refl refl refl refl refl })
 
 -- the way of `end_above` where the body is found
-pub plain-end-judged : (s : Side) (body : List ℕ) (next : ℕ) (previous : Option Place) (b : PlainReading) (there : Bool) → BodyRead s body b →
-    b .found ≡ true → there ≡ ascends previous (placePlain (record { side = s; plain = b .plain })) →
-    PlainEnded (above previous next (endOf s body)) (record { there = there; next = next; end = record { side = s; plain = b .plain } })
+pub plain-end-judged : (s : Side) (body : List ℕ) (next : ℕ) (previous : Option Place) (b : PlainReading) (found : Bool) → BodyRead s body b →
+    b .found ≡ true → found ≡ ascends previous (placePlain (record { side = s; plain = b .plain })) →
+    PlainEnded (above previous next (endOf s body)) (record { found = found; next = next; end = record { side = s; plain = b .plain } })
 unfolding placePlain
-plain-end-judged s body next previous b there p f g = record { is = λ e. rw (p .said f, ← g, e); filled = p .filled }
+plain-end-judged s body next previous b found p f g = record { is = λ e. rw (p .said f, ← g, e); filled = p .filled }
 
--- the way of `lower_end` and `upper_end` where the record and its kind are right
-pub plain-end-read : (due : Kind → List ℕ → Option Place) (s : List ℕ) (place : ℕ) (previous : Option Place) (r : RecordAt) (q : PlainEndAt)
-    (number start next : ℕ) (k : Kind) (side : Side) → r ≡ recordAt s place → r ≡ Found number start next → k ≡ kindOf number →
-    due k (bodyOf s start next) ≡ endOf side (bodyOf s start next) → PlainEnded (above previous next (endOf side (bodyOf s start next))) q →
+-- the way of `next_end` where the end is the one that is due
+pub plain-end-read : (due end : Due) (s : List ℕ) (place : ℕ) (previous : Option Place) (r : RecordAt) (q : PlainEndAt) (number start next : ℕ)
+    (k : Kind) (side : Side) (t : Bool) → r ≡ recordAt s place → r ≡ Found number start next → k ≡ kindOf number → k ≡ End end side →
+    t ≡ isDue due end → t ≡ true → PlainEnded (above previous next (endOf side (bodyOf s start next))) q →
     PlainEnded (endIn due previous s (recordAt s place)) q
-plain-end-read due s place previous r q number start next k side d e f h g = rw (← d, e, ← f, h) g
+plain-end-read due end s place previous r q number start next k side t d e f h i j g = rw (← d, e, ← f, h, ← i, j) g

@@ -7,6 +7,9 @@ use mathlib.Core.Option.{none}
 use Prim.Native.Nat.{ℕ, _-_, _≤_, _<_}
 use lib.ListN.{length}
 use borrow.Author.Tests.{not-false}
+use Rattle.records.specs.declared.record.RecordAt.{RecordAt}
+use Rattle.records.specs.declared.record.RecordAt.the-variants.{Found}
+use Rattle.records.specs.Record.{twoAt, recordAt}
 use Rattle.ranges.specs.Range.{within}
 use Rattle.version_reading.specs.declared.plain.PlainReading.{PlainReading}
 use Rattle.version_reading.specs.declared.text.Verdict.the-variants.{Accepted}
@@ -15,17 +18,15 @@ use Rattle.version_reading.specs.Reading.{accepted, patternAs, versionOf}
 use Rattle.version_reading.proofs.PlainRead.{plain-read}
 use Rattle.list_ends.specs.declared.end.Side.the-variants.{Before}
 use Rattle.list_ends.specs.Cut.{Place, lePlace}
-use Rattle.table_reading.specs.declared.record.RecordAt.{RecordAt}
-use Rattle.table_reading.specs.declared.record.RecordAt.the-variants.{Found}
+use Rattle.table_reading.specs.declared.kind.Due.the-variants.{Lower, Upper}
 use Rattle.table_reading.specs.declared.kind.Kind.{Kind}
 use Rattle.table_reading.specs.declared.kind.Kind.the-variants.{Count}
 use Rattle.table_reading.specs.declared.search.Searched.{Searched}
 use Rattle.table_reading.specs.declared.search.Searched.the-variants.{Held}
 use Rattle.answers.specs.declared.YesNo.{YesNo}
-use Rattle.table_reading.specs.Record.{twoAt, recordAt}
 use Rattle.table_reading.specs.Kind.{kindOf}
-use Rattle.table_reading.specs.Table.{lowerOf, upperOf, endIn, rangesFrom, tableOf}
-use Rattle.table_reading.specs.Reached.{noEnd, searchedFor}
+use Rattle.table_reading.specs.Table.{endIn, rangesFrom, tableOf}
+use Rattle.table_reading.specs.Reached.{noneFound, searchedFor}
 use Rattle.table_reading.specs.Lookup.{judged, looked}
 use Rattle.table_reading.proofs.Searching.{saysFrom, says-all, range-read, ranges-end, count-read}
 use Rattle.table_reading.proofs.Lookups.{lookup-held}
@@ -33,17 +34,17 @@ use Rattle.table_lookup.specs.declared.plain_end_at.PlainEndAt.{PlainEnd
 use Rattle.table_lookup.specs.declared.plain_search.Quick.{Quick}
 use Rattle.table_lookup.specs.declared.plain_search.Quick.the-variants.{Unknown, Held as QuicklyHeld}
 use Rattle.table_lookup.specs.Lookup.{LookedPlainly}
-use Rattle.table_lookup.specs.PlainEnd.{placePlain, wholeEndAt, plainReached, noPlainEnd, PlainEnded, Answers}
+use Rattle.table_lookup.specs.PlainEnd.{placePlain, wholeEndAt, plainReached, noPlainFound, PlainEnded, Answers}
 
-pub plain-says-all : (s : List ℕ) (c : Place) (last : PlainEndAt) (count start : ℕ) → last ≡ noPlainEnd start →
+pub plain-says-all : (s : List ℕ) (c : Place) (last : PlainEndAt) (count start : ℕ) → last ≡ noPlainFound start →
     saysFrom s c false (wholeEndAt last) count ≡ searchedFor c (rangesFrom count none s start)
-plain-says-all s c last count start e = rw e (says-all s c (noEnd start) count start refl)
+plain-says-all s c last count start e = rw e (says-all s c (noneFound start) count start refl)
 
 -- the ways of `search_ranges`
 module _ (s : List ℕ) (c : Place) (held : Bool) (last : PlainEndAt) (left : ℕ) (t : Searched) (same : saysFrom s c held (wholeEndAt last) left ≡ t) where
   pub plain-range-read : (lower upper : PlainEndAt) (now : Bool) → 0 < left →
-      PlainEnded (endIn lowerOf (plainReached last) s (recordAt s (last .next))) lower → not (lower .there) ≡ false →
-      PlainEnded (endIn upperOf (plainReached lower) s (recordAt s (lower .next))) upper → not (upper .there) ≡ false →
+      PlainEnded (endIn Lower (plainReached last) s (recordAt s (last .next))) lower → not (lower .found) ≡ false →
+      PlainEnded (endIn Upper (plainReached lower) s (recordAt s (lower .next))) upper → not (upper .found) ≡ false →
       now ≡ held || within lePlace (placePlain (lower .end)) (placePlain (upper .end)) c → saysFrom s c now (wholeEndAt upper) (left - 1) ≡ t
   unfolding plainReached placePlain
   plain-range-read lower upper now more a x b y k =

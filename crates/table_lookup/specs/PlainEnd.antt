@@ -37,13 +37,13 @@ unfoldable pub placePlain : PlainEnd → Place
 placePlain e = placeOf (wholeEnd e)
 
 abbrev pub wholeEndAt : PlainEndAt → EndAt
-wholeEndAt e = record { there = e .there; next = e .next; end = wholeEnd (e .end) }
+wholeEndAt e = record { found = e .found; next = e .next; end = wholeEnd (e .end) }
 
 unfoldable pub plainReached : PlainEndAt → Option Place
 plainReached e = placeReached (wholeEndAt e)
 
-abbrev pub noPlainEnd : ℕ → PlainEndAt
-noPlainEnd at = record { there = false; next = at; end = record { side = Bottom; plain = notPlain .plain } }
+abbrev pub noPlainFound : ℕ → PlainEndAt
+noPlainFound at = record { found = false; next = at; end = record { side = Bottom; plain = notPlain .plain } }
 
 -- none below and none above have no body
 pub record BareRead (body : List ℕ) (r : PlainReading) : Type 0 where
@@ -55,9 +55,9 @@ pub record BodyRead (side : Side) (body : List ℕ) (r : PlainReading) : Type 0 
   pub said : r .found ≡ true → endOf side body ≡ some (placeAt side (wholeVersion (r .plain)))
   pub filled : FilledPlain (r .plain)
 
--- an end that is there is the one that the rules say
+-- an end that was found is the one that the rules say
 pub record PlainEnded (spec : Option Ended) (r : PlainEndAt) : Type 0 where
-  pub is : r .there ≡ true → endReached (wholeEndAt r) ≡ spec
+  pub is : r .found ≡ true → endReached (wholeEndAt r) ≡ spec
   pub filled : FilledPlain (r .end .plain)
 
 abbrev pub Answers : Searched → Quick → Type 0

@@ -5,28 +5,30 @@ use crate::plain_end::glance;
 use crate::plain_end::plain_at_most;
 use list_ends::end::Side;
 use order::Order;
+use records::record::RecordAt;
+use records::record::record_at;
+use table_reading::kind::Due;
 use table_reading::kind::Kind;
+use table_reading::kind::is_due;
 use table_reading::kind::kind_of;
-use table_reading::record::RecordAt;
-use table_reading::record::record_at;
 use version_reading::plain::PlainReading;
 use version_reading::plain::not_found;
 ghost use mathlib.Core.Path.{_≡_};
+ghost use Rattle.records.specs.Record.{recordAt};
 ghost use Rattle.version_reading.specs.Plain.{FilledPlain};
 ghost use Rattle.table_reading.specs.Body.{endOf};
-ghost use Rattle.table_reading.specs.Record.{recordAt};
-ghost use Rattle.table_reading.specs.Table.{ascends, above, lowerOf, upperOf, endIn};
-ghost use Rattle.table_lookup.specs.PlainEnd.{placePlain, plainReached, noPlainEnd, BareRead, BodyRead, PlainEnded};
+ghost use Rattle.table_reading.specs.Table.{ascends, above, endIn};
+ghost use Rattle.table_lookup.specs.PlainEnd.{placePlain, plainReached, noPlainFound, BareRead, BodyRead, PlainEnded};
 
-// As `table_reading::end_at::EndAt`. Where no end is there, one may still be: the whole table then has to be read the other way.
+// As `table_reading::end_at::EndAt`. Where none was found there may still be one: the whole table then has to be read the other way.
 pub struct PlainEndAt {
-    pub there: bool,
+    pub found: bool,
     pub next: usize,
     pub end: PlainEnd,
 }
 
-pub(crate) fn no_plain_end(next: usize) -> PlainEndAt
-    ensures { λ r. ⌜ r ≡ noPlainEnd next ⌝ }
+pub(crate) fn no_plain_found(next: usize) -> PlainEndAt
+    ensures { λ r. ⌜ r ≡ noPlainFound next ⌝ }
 {
     let none = not_found();
     let plain = none.plain;
@@ -35,7 +37,7 @@ pub(crate) fn no_plain_end(next: usize) -> PlainEndAt
         plain,
     };
     PlainEndAt {
-        there: false,
+        found: false,
         next,
         end,
     }
@@ -68,7 +70,7 @@ fn is_above(end: PlainEnd, last: PlainEndAt) -> bool
     requires { ⌜ FilledPlain (end .plain) × FilledPlain (last .end .plain) ⌝ }
     ensures { λ r. ⌜ r ≡ ascends (plainReached last) (placePlain end) ⌝ }
 {
-    if !last.there {
+    if !last.found {
         return true;
     }
     let below = last.end;
@@ -91,38 +93,27 @@ fn end_above(side: Side, body: &[u8], next: usize, last: PlainEndAt) -> PlainEnd
     if said.found {
         let plain = said.plain;
         let end = PlainEnd { side, plain };
-        let there = is_above(end, last);
-        return PlainEndAt { there, next, end };
+        let found = is_above(end, last);
+        return PlainEndAt { found, next, end };
     }
-    no_plain_end(next)
+    no_plain_found(next)
 }
 
-pub(crate) fn lower_end(table: &[u8], last: PlainEndAt) -> PlainEndAt
+// The end after `last`, if it is the one that is due.
+pub(crate) fn next_end(table: &[u8], due: Due, last: PlainEndAt) -> PlainEndAt
     requires { ⌜ FilledPlain (last .end .plain) ⌝ }
-    ensures { λ r. ⌜ PlainEnded (endIn lowerOf (plainReached last) (now (table .entry)) (recordAt (now (table .entry)) (last .next))) r ⌝ }
+    ensures { λ r. ⌜ PlainEnded (endIn due (plainReached last) (now (table .entry)) (recordAt (now (table .entry)) (last .next))) r ⌝ }
 {
     let at = last.next;
     let RecordAt::Found(number, start, next) = record_at(table, at) else {
-        return no_plain_end(at);
+        return no_plain_found(at);
     };
     let kind = kind_of(number);
-    let Kind::Lower(side) = kind else {
-        return no_plain_end(at);
+    let Kind::End(end, side) = kind else {
+        return no_plain_found(at);
     };
-    end_above(side, &table[start..next], next, last)
-}
-
-pub(crate) fn upper_end(table: &[u8], last: PlainEndAt) -> PlainEndAt
-    requires { ⌜ FilledPlain (last .end .plain) ⌝ }
-    ensures { λ r. ⌜ PlainEnded (endIn upperOf (plainReached last) (now (table .entry)) (recordAt (now (table .entry)) (last .next))) r ⌝ }
-{
-    let at = last.next;
-    let RecordAt::Found(number, start, next) = record_at(table, at) else {
-        return no_plain_end(at);
-    };
-    let kind = kind_of(number);
-    let Kind::Upper(side) = kind else {
-        return no_plain_end(at);
-    };
-    end_above(side, &table[start..next], next, last)
+    if is_due(due, end) {
+        return end_above(side, &table[start..next], next, last);
+    }
+    no_plain_found(at)
 }

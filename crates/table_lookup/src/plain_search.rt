@@ -1,14 +1,14 @@
 // The ranges of a table in one pass over plain ends. It answers for the tables that are met most, and never says that a table is bad.
 use crate::plain_end::PlainEnd;
 use crate::plain_end::held_between;
-use crate::plain_end_at::lower_end;
-use crate::plain_end_at::no_plain_end;
-use crate::plain_end_at::upper_end;
+use crate::plain_end_at::next_end;
+use crate::plain_end_at::no_plain_found;
+use records::record::RecordAt;
+use records::record::record_at;
+use records::two_bytes::two_at;
+use table_reading::kind::Due;
 use table_reading::kind::Kind;
 use table_reading::kind::kind_of;
-use table_reading::record::RecordAt;
-use table_reading::record::record_at;
-use table_reading::record::two_at;
 ghost use mathlib.Core.Option.{none};
 ghost use Rattle.version_reading.specs.Plain.{FilledPlain};
 ghost use Rattle.table_reading.specs.Table.{rangesFrom, tableOf};
@@ -21,21 +21,21 @@ pub enum Quick {
     Held(bool),
 }
 
-// So many ranges from a place on.
+// The next count ranges, from start on.
 fn search_ranges(table: &[u8], count: usize, start: usize, candidate: PlainEnd) -> Quick
     requires { ⌜ FilledPlain (candidate .plain) ⌝ }
     ensures { λ r. ⌜ Answers (searchedFor (placePlain candidate) (rangesFrom count none (now (table .entry)) start)) r ⌝ }
 {
     let mut held = false;
-    let mut last = no_plain_end(start);
+    let mut last = no_plain_found(start);
     let mut left = count;
     while 0 < left {
-        let lower = lower_end(table, last);
-        if !lower.there {
+        let lower = next_end(table, Due::Lower, last);
+        if !lower.found {
             return Quick::Unknown;
         }
-        let upper = upper_end(table, lower);
-        if !upper.there {
+        let upper = next_end(table, Due::Upper, lower);
+        if !upper.found {
             return Quick::Unknown;
         }
         let low = lower.end;

@@ -5,13 +5,13 @@ use mathlib.Core.List.{List, [], _∷_, _++_, map}
 use Prim.Native.Nat.{ℕ}
 use Rattle.answers.specs.Refusal.{refusal}
 use Rattle.chars.specs.Text.{ascii}
+use Rattle.records.specs.Record.{recordAt}
 use Rattle.ranges.specs.Cut.{top, before, after}
 use Rattle.version_reading.specs.Value.{listed, valueOf, valueIn}
 use Rattle.version_order.specs.Versions.{compareRelease, compareKey, comparePublic}
 use Rattle.version_roundtrip.proofs.Extremes.{computed}
 use Rattle.answers.specs.declared.YesNo.{YesNo}
 use Rattle.answers.specs.declared.YesNo.the-variants.{Yes, No, Second as Version}
-use Rattle.table_reading.specs.Record.{recordAt}
 use Rattle.table_reading.specs.Kind.{kindOf}
 use Rattle.table_reading.specs.Body.{versionIn}
 use Rattle.table_reading.specs.Table.{Tabled, ranges, bad, rangesFrom, tableOf}

@@ -8,6 +8,9 @@ use Prim.Native.Nat.{ℕ}
 use lib.Dec.{eqb}
 use lib.ListN.{length}
 use borrow.Author.Tests.{not-true, eqb-true}
+use Rattle.records.specs.declared.record.RecordAt.{RecordAt}
+use Rattle.records.specs.declared.record.RecordAt.the-variants.{Found, Cut, Nothing}
+use Rattle.records.specs.Record.{bodyOf}
 use Rattle.ranges.specs.Cut.{bot, top, before, after}
 use Rattle.ranges.specs.Table.{Beyond}
 use Rattle.version_reading.specs.declared.text.Verdict.{Verdict}
@@ -19,14 +22,15 @@ use Rattle.version_roundtrip.proofs.ReadPlaces.{by-cond}
 use Rattle.version_roundtrip.proofs.Roundtrip.{accepted-readable}
 use Rattle.list_ends.specs.Cut.{Place, lePlace}
 use Rattle.list_ends.specs.Writable.{Writable, Lower, Upper}
-use Rattle.table_reading.specs.declared.record.RecordAt.{RecordAt}
-use Rattle.table_reading.specs.declared.record.RecordAt.the-variants.{Missing, Found}
+use Rattle.list_ends.specs.declared.end.Side.the-variants.{Before, After}
+use Rattle.table_reading.specs.declared.kind.Due.{Due}
+use Rattle.table_reading.specs.declared.kind.Due.the-variants.{Lower as IsLower, Upper as IsUpper}
 use Rattle.table_reading.specs.declared.kind.Kind.{Kind}
-use Rattle.table_reading.specs.Record.{bodyOf}
-use Rattle.table_reading.specs.Kind.{kindOf}
+use Rattle.table_reading.specs.declared.kind.Kind.the-variants.{Count, End, Unknown}
+use Rattle.table_reading.specs.Kind.{rangeCount, noneBelow, fromBefore, fromAfter, noneAbove, toBefore, toAfter, kindOf}
 use Rattle.chars.specs.Same.{sameBytes}
-use Rattle.table_reading.specs.Body.{inNormalText, versionIn, at, bare}
-use Rattle.table_reading.specs.Table.{lowerOf, upperOf, ascends, Ended, above, endIn}
+use Rattle.table_reading.specs.Body.{inNormalText, versionIn, at, bare, endOf}
+use Rattle.table_reading.specs.Table.{endDue, ascends, Ended, above, endIn}
 use Rattle.list_ends.proofs.Sounds.{no-label}
 
 abbrev ValueIs : (Value → Type 0) → Option Value → Type 0
@@ -66,31 +70,44 @@ at-is Q side f (some v) h = f v h
 bare-is : (Q : Place → Type 0) (p : Place) (body : List ℕ) → Q p → PlaceIs Q (bare p body)
 bare-is Q p body h = by-cond (PlaceIs Q) (eqb (length body) 0) (λ e. h) (λ e. tt)
 
--- by the rows of the kinds
-module _ (number : ℕ) (body : List ℕ) where
-  lower-is : PlaceIs Lower (lowerOf (kindOf number) body)
-  unfolding kindOf
-  lower-is =
-      let Q : Kind → Type 0 = λ k. PlaceIs Lower (lowerOf k body) in
-      by-cond Q (eqb number 1) (λ e. tt)
-      (λ n1. by-cond Q (eqb number 2) (λ e. bare-is Lower bot body tt)
-      (λ n2. by-cond Q (eqb number 3) (λ e. at-is Lower before (λ v w. w) (versionIn body) (version-writable body))
-      (λ n3. by-cond Q (eqb number 4) (λ e. at-is Lower after (λ v w. w) (versionIn body) (version-writable body))
-      (λ n4. by-cond Q (eqb number 5) (λ e. tt)
-      (λ n5. by-cond Q (eqb number 6) (λ e. tt)
-      (λ n6. by-cond Q (eqb number 7) (λ e. tt) (λ n7. tt)))))))
+-- what is said of a lower end, or of an upper end
+abbrev pub OfSort : Due → Place → Type 0
+OfSort IsLower p = Lower p
+OfSort IsUpper p = Upper p
 
-  upper-is : PlaceIs Upper (upperOf (kindOf number) body)
-  unfolding kindOf
-  upper-is =
-      let Q : Kind → Type 0 = λ k. PlaceIs Upper (upperOf k body) in
-      by-cond Q (eqb number 1) (λ e. tt)
-      (λ n1. by-cond Q (eqb number 2) (λ e. tt)
-      (λ n2. by-cond Q (eqb number 3) (λ e. tt)
-      (λ n3. by-cond Q (eqb number 4) (λ e. tt)
-      (λ n4. by-cond Q (eqb number 5) (λ e. bare-is Upper top body tt)
-      (λ n5. by-cond Q (eqb number 6) (λ e. at-is Upper before (λ v w. w) (versionIn body) (version-writable body))
-      (λ n6. by-cond Q (eqb number 7) (λ e. at-is Upper after (λ v w. w) (versionIn body) (version-writable body)) (λ n7. tt)))))))
+-- what a kind says is such an end, whatever the body
+abbrev KindIs : Kind → Type 0
+KindIs (End end side) = (body : List ℕ) → PlaceIs (OfSort end) (endOf side body)
+KindIs Count = Unit {0}
+KindIs Unknown = Unit {0}
+
+at-before : (end : Due) (body : List ℕ) → PlaceIs (OfSort end) (endOf Before body)
+at-before IsLower body = at-is Lower before (λ v w. w) (versionIn body) (version-writable body)
+at-before IsUpper body = at-is Upper before (λ v w. w) (versionIn body) (version-writable body)
+
+at-after : (end : Due) (body : List ℕ) → PlaceIs (OfSort end) (endOf After body)
+at-after IsLower body = at-is Lower after (λ v w. w) (versionIn body) (version-writable body)
+at-after IsUpper body = at-is Upper after (λ v w. w) (versionIn body) (version-writable body)
+
+-- by the rows of the kinds
+kind-is : (number : ℕ) → KindIs (kindOf number)
+unfolding kindOf
+kind-is number =
+    by-cond KindIs (eqb number rangeCount) (λ e. tt)
+    (λ n1. by-cond KindIs (eqb number noneBelow) (λ e body. bare-is Lower bot body tt)
+    (λ n2. by-cond KindIs (eqb number fromBefore) (λ e. at-before IsLower)
+    (λ n3. by-cond KindIs (eqb number fromAfter) (λ e. at-after IsLower)
+    (λ n4. by-cond KindIs (eqb number noneAbove) (λ e body. bare-is Upper top body tt)
+    (λ n5. by-cond KindIs (eqb number toBefore) (λ e. at-before IsUpper)
+    (λ n6. by-cond KindIs (eqb number toAfter) (λ e. at-after IsUpper) (λ n7. tt)))))))
+
+due-is : (due : Due) (k : Kind) (body : List ℕ) → KindIs k → PlaceIs (OfSort due) (endDue due k body)
+due-is due Count body h = tt
+due-is due Unknown body h = tt
+due-is IsLower (End IsLower side) body h = h body
+due-is IsLower (End IsUpper side) body h = tt
+due-is IsUpper (End IsLower side) body h = tt
+due-is IsUpper (End IsUpper side) body h = h body
 
 beyond : (b : Option Place) (p : Place) → ascends b p ≡ true → Beyond lePlace b p
 beyond none p e = tt
@@ -100,12 +117,8 @@ above-is : (Q : Place → Type 0) (b : Option Place) (next : ℕ) (o : Option Pl
 above-is Q b next none h = tt
 above-is Q b next (some p) h = by-cond (EndIs Q b) (ascends b p) (λ e. (beyond b p e, h)) (λ e. tt)
 
-pub lower-end-is : (b : Option Place) (s : List ℕ) (r : RecordAt) → EndIs Lower b (endIn lowerOf b s r)
-lower-end-is b s Missing = tt
-lower-end-is b s (Found number start next) =
-    above-is Lower b next (lowerOf (kindOf number) (bodyOf s start next)) (lower-is number (bodyOf s start next))
-
-pub upper-end-is : (b : Option Place) (s : List ℕ) (r : RecordAt) → EndIs Upper b (endIn upperOf b s r)
-upper-end-is b s Missing = tt
-upper-end-is b s (Found number start next) =
-    above-is Upper b next (upperOf (kindOf number) (bodyOf s start next)) (upper-is number (bodyOf s start next))
+pub end-is : (due : Due) (b : Option Place) (s : List ℕ) (r : RecordAt) → EndIs (OfSort due) b (endIn due b s r)
+end-is due b s (Found number start next) =
+    above-is (OfSort due) b next (endDue due (kindOf number) (bodyOf s start next)) (due-is due (kindOf number) (bodyOf s start next) (kind-is number))
+end-is due b s Cut = tt
+end-is due b s Nothing = tt

@@ -1,6 +1,5 @@
 pub mod Anchors
 pub mod Numbers
-pub mod Records
 pub mod Bodies
 pub mod Written
 pub mod Reading

@@ -11,20 +11,22 @@ use lib.ListN.{length}
 use borrow.Author.Tests.{not-true, not-false, eq-eqb, ne-eqb, lt-ltb, le-ltb}
 use types.Run.{OneOf}
 use denote.Enum.Declared.{tagOf}
+use Rattle.records.specs.declared.record.RecordAt.{RecordAt}
+use Rattle.records.specs.declared.record.RecordAt.the-variants.{Found}
+use Rattle.records.specs.Record.{twoAt, recordAt}
+use Rattle.records.proofs.Reading.{NotFound, not-found}
 use Rattle.ranges.specs.Range.{Range, within}
 use Rattle.list_ends.specs.Cut.{Place, lePlace}
 use Rattle.list_ends.specs.End.{placeOf}
-use Rattle.table_reading.specs.declared.record.RecordAt.{RecordAt}
-use Rattle.table_reading.specs.declared.record.RecordAt.the-variants.{Missing, Found}
 use Rattle.table_reading.specs.declared.kind.Kind.{Kind}
-use Rattle.table_reading.specs.declared.kind.Kind.the-variants.{Count, Lower, Upper, Unknown}
+use Rattle.table_reading.specs.declared.kind.Kind.the-variants.{Count, End, Unknown}
+use Rattle.table_reading.specs.declared.kind.Due.the-variants.{Lower, Upper}
 use Rattle.table_reading.specs.declared.end_at.EndAt.{EndAt}
 use Rattle.table_reading.specs.declared.search.Searched.{Searched}
 use Rattle.table_reading.specs.declared.search.Searched.the-variants.{Refused, Held}
-use Rattle.table_reading.specs.Record.{twoAt, recordAt}
 use Rattle.table_reading.specs.Kind.{kindOf}
-use Rattle.table_reading.specs.Table.{lowerOf, upperOf, endIn, Tabled, refused, ranges, bad, startedBy, rangesFrom, countedBy, tableOf}
-use Rattle.table_reading.specs.Reached.{noEnd, placeReached, endReached, badTable, searchedFor}
+use Rattle.table_reading.specs.Table.{endIn, Tabled, refused, ranges, bad, startedBy, rangesFrom, countedBy, counted, tableOf}
+use Rattle.table_reading.specs.Reached.{noneFound, placeReached, endReached, badTable, searchedFor}
 use Rattle.table_reading.proofs.kind.Kind.{the-type}
 
 -- the ways of `held_by`
@@ -57,41 +59,41 @@ started : (c : Place) (r : Range Place) (t : Tabled) → searchedFor c (startedB
 started c r (refused number place) = refl
 started c r (ranges T) = refl
 
--- what is left to say, behind an end, with what was said before
+-- what is left to say, after an end, with what was said before
 abbrev pub saysFrom : List ℕ → Place → Bool → EndAt → ℕ → Searched
 saysFrom s c held last left = orHeld held (searchedFor c (rangesFrom left (placeReached last) s (last .next)))
 
-pub says-all : (s : List ℕ) (c : Place) (last : EndAt) (count start : ℕ) → last ≡ noEnd start →
+pub says-all : (s : List ℕ) (c : Place) (last : EndAt) (count start : ℕ) → last ≡ noneFound start →
     saysFrom s c false last count ≡ searchedFor c (rangesFrom count none s start)
 says-all s c last count start e = rw e (or-none (searchedFor c (rangesFrom count none s start)))
 
 -- the ways of `search_ranges`
 module _ (s : List ℕ) (c : Place) (held : Bool) (last : EndAt) (left : ℕ) (t : Searched) (same : saysFrom s c held last left ≡ t) where
-  module _ (more : 0 < left) (lower : EndAt) (e : endReached lower ≡ endIn lowerOf (placeReached last) s (recordAt s (last .next))) where
+  module _ (more : 0 < left) (lower : EndAt) (e : endReached lower ≡ endIn Lower (placeReached last) s (recordAt s (last .next))) where
     one : left ≡ suc (left - 1)
     one = omega arith
 
-    pub lower-bad : (q : Searched) → not (lower .there) ≡ true → q ≡ badTable → q ≡ t
+    pub lower-bad : (q : Searched) → not (lower .found) ≡ true → q ≡ badTable → q ≡ t
     unfolding rangesFrom
-    lower-bad q f g = g ∙ rw (one, ← e, not-true (lower .there) f) at same
+    lower-bad q f g = g ∙ rw (one, ← e, not-true (lower .found) f) at same
 
-    module _ (there : not (lower .there) ≡ false) (upper : EndAt)
-        (g : endReached upper ≡ endIn upperOf (placeReached lower) s (recordAt s (lower .next))) where
-      f : lower .there ≡ true
-      f = not-false (lower .there) there
+    module _ (there : not (lower .found) ≡ false) (upper : EndAt)
+        (g : endReached upper ≡ endIn Upper (placeReached lower) s (recordAt s (lower .next))) where
+      f : lower .found ≡ true
+      f = not-false (lower .found) there
 
-      here : endReached upper ≡ endIn upperOf (some (placeOf (lower .end))) s (recordAt s (lower .next))
+      here : endReached upper ≡ endIn Upper (some (placeOf (lower .end))) s (recordAt s (lower .next))
       here = rw f at g
 
-      pub upper-bad : (q : Searched) → not (upper .there) ≡ true → q ≡ badTable → q ≡ t
+      pub upper-bad : (q : Searched) → not (upper .found) ≡ true → q ≡ badTable → q ≡ t
       unfolding rangesFrom
-      upper-bad q h k = k ∙ rw (one, ← e, f, ← here, not-true (upper .there) h) at same
+      upper-bad q h k = k ∙ rw (one, ← e, f, ← here, not-true (upper .found) h) at same
 
-      pub range-read : (now : Bool) → not (upper .there) ≡ false →
+      pub range-read : (now : Bool) → not (upper .found) ≡ false →
           now ≡ held || within lePlace (placeOf (lower .end)) (placeOf (upper .end)) c → saysFrom s c now upper (left - 1) ≡ t
       unfolding rangesFrom
       range-read now i k =
-          let h : upper .there ≡ true = not-false (upper .there) i in
+          let h : upper .found ≡ true = not-false (upper .found) i in
           let rest = rangesFrom (left - 1) (some (placeOf (upper .end))) s (upper .next) in
           let turned : orHeld held (searchedFor c (startedBy (record { lo = placeOf (lower .end); hi = placeOf (upper .end) }) rest)) ≡ t =
           rw (one, ← e, f, ← here, h) at same in
@@ -112,21 +114,19 @@ module _ (s : List ℕ) (c : Place) (held : Bool) (last : EndAt) (left : ℕ) (t
 
 -- what is known in the `else` of `let Kind::Count = kind`
 abbrev NotCount : Kind → Type 0
-NotCount k = OneOf (1 ∷ 2 ∷ 3 ∷ []) (tagOf the-type k)
+NotCount k = OneOf (1 ∷ 2 ∷ []) (tagOf the-type k)
 
 no-count : (k : Kind) (s : List ℕ) (start next : ℕ) → NotCount k → countedBy k s start next ≡ bad
-no-count (Lower side) s start next h = refl
-no-count (Upper side) s start next h = refl
+no-count (End end side) s start next h = refl
 no-count Unknown s start next h = refl
 no-count Count s start next (inl e) = absurd (omega arith)
-no-count Count s start next (inr (inl e)) = absurd (omega arith)
-no-count Count s start next (inr (inr e)) = absurd (omega arith)
+no-count Count s start next (inr e) = absurd (omega arith)
 
 -- the ways of `search_table`: r is the first record, and q what is answered
 module _ (s : List ℕ) (c : Place) (r : RecordAt) (q : Searched) (d : r ≡ recordAt s 0) where
-  pub first-missing : r ≡ Missing → q ≡ badTable → q ≡ searchedFor c (tableOf s)
+  pub first-missing : NotFound r → q ≡ badTable → q ≡ searchedFor c (tableOf s)
   unfolding tableOf
-  first-missing e g = rw (← d, e) g
+  first-missing h g = rw (← d, not-found (counted s) bad refl refl r h) g
 
   module _ (number start next : ℕ) (e : r ≡ Found number start next) (k : Kind) (f : k ≡ kindOf number) where
     pub first-other : NotCount k → q ≡ badTable → q ≡ searchedFor c (tableOf s)

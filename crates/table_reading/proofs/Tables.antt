@@ -10,6 +10,9 @@ use lib.Dec.{eqb, ltb}
 use lib.ListN.{length}
 use borrow.Author.Tests.{ltb-false}
 use Rattle.order.specs.All.{All}
+use Rattle.records.specs.declared.record.RecordAt.{RecordAt}
+use Rattle.records.specs.declared.record.RecordAt.the-variants.{Found, Cut, Nothing}
+use Rattle.records.specs.Record.{twoAt, recordAt}
 use Rattle.ranges.specs.Cut.{bot}
 use Rattle.ranges.specs.Range.{Range}
 use Rattle.ranges.specs.Table.{Beyond, Asc}
@@ -18,16 +21,12 @@ use Rattle.version_order.specs.Versions.{comparePublic}
 use Rattle.version_roundtrip.proofs.ReadPlaces.{by-cond}
 use Rattle.list_ends.specs.Cut.{Place, lePlace}
 use Rattle.list_ends.specs.Writable.{Lower, Upper, Written}
-use Rattle.table_reading.specs.declared.record.RecordAt.{RecordAt}
-use Rattle.table_reading.specs.declared.record.RecordAt.the-variants.{Missing, Found}
 use Rattle.table_reading.specs.declared.kind.Kind.{Kind}
-use Rattle.table_reading.specs.declared.kind.Kind.the-variants.{Count, Lower as IsLower, Upper as IsUpper, Unknown}
-use Rattle.table_reading.specs.Record.{twoAt, recordAt}
+use Rattle.table_reading.specs.declared.kind.Kind.the-variants.{Count, End, Unknown}
+use Rattle.table_reading.specs.declared.kind.Due.the-variants.{Lower as IsLower, Upper as IsUpper}
 use Rattle.table_reading.specs.Kind.{kindOf}
 use Rattle.table_reading.specs.Table.{
   Ended,
-  lowerOf,
-  upperOf,
   endIn,
   Tabled,
   refused,
@@ -41,9 +40,9 @@ use Rattle.table_reading.specs.Table.{
   tableOf,
 }
 use Rattle.table_reading.specs.WellFormed.{BelowFirst, AboveLast, WellFormed}
-use Rattle.table_reading.proofs.EndsRead.{EndIs, lower-end-is, upper-end-is}
+use Rattle.table_reading.proofs.EndsRead.{EndIs, end-is}
 
--- n ranges behind an end, or the one refusal
+-- n ranges after an end, or the one refusal
 abbrev Sound : Option Place → ℕ → Tabled → Type 0
 Sound b n (refused number place) = (number ≡ 18) × (place ≡ 0)
 Sound b n (ranges T) = Asc lePlace b T × (length T ≡ n) × All Written T
@@ -62,10 +61,10 @@ ranges-sound : (n : ℕ) (b : Option Place) (s : List ℕ) (start : ℕ) → Sou
 unfolding rangesFrom
 ranges-sound zero b s start = by-cond (Sound b 0) (eqb start (length s)) (λ e. (tt, refl, tt)) (λ e. (refl, refl))
 ranges-sound (suc n) b s start =
-    on-end (Sound b (suc n)) Lower b (endIn lowerOf b s (recordAt s start)) _ (lower-end-is b s (recordAt s start)) (refl, refl)
+    on-end (Sound b (suc n)) Lower b (endIn IsLower b s (recordAt s start)) _ (end-is IsLower b s (recordAt s start)) (refl, refl)
     (λ lo above-b lower.
-    on-end (Sound b (suc n)) Upper (some (lo .place)) (endIn upperOf (some (lo .place)) s (recordAt s (lo .next))) _
-    (upper-end-is (some (lo .place)) s (recordAt s (lo .next))) (refl, refl)
+    on-end (Sound b (suc n)) Upper (some (lo .place)) (endIn IsUpper (some (lo .place)) s (recordAt s (lo .next))) _
+    (end-is IsUpper (some (lo .place)) s (recordAt s (lo .next))) (refl, refl)
     (λ hi above-lo upper.
     started b n (record { lo = lo .place; hi = hi .place }) (rangesFrom n (some (hi .place)) s (hi .next)) above-b above-lo
     (record { lower = lower; upper = upper })
@@ -104,8 +103,7 @@ judge n (ranges T) few h = record {
 }
 
 count-judged : (k : Kind) (s : List ℕ) (start next : ℕ) → Judged (countedBy k s start next)
-count-judged (IsLower side) s start next = (refl, refl)
-count-judged (IsUpper side) s start next = (refl, refl)
+count-judged (End end side) s start next = (refl, refl)
 count-judged Unknown s start next = (refl, refl)
 count-judged Count s start next =
     by-cond Judged (eqb (next - start) 2)
@@ -115,8 +113,9 @@ count-judged Count s start next =
     (λ e. (refl, refl))
 
 record-judged : (s : List ℕ) (r : RecordAt) → Judged (counted s r)
-record-judged s Missing = (refl, refl)
 record-judged s (Found number start next) = count-judged (kindOf number) s start next
+record-judged s Cut = (refl, refl)
+record-judged s Nothing = (refl, refl)
 
 judged : (s : List ℕ) → Judged (tableOf s)
 unfolding tableOf

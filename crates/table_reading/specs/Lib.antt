@@ -1,4 +1,3 @@
-pub mod Record
 pub mod Kind
 pub mod Body
 pub mod Table

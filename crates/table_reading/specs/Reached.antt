@@ -26,14 +26,14 @@ abbrev pub endSaid : Side → Body → Option Place
 endSaid side b = cond (b .valid) (some (placeAt side (b .version))) none
 
 -- no end, and where the next is due
-abbrev pub noEnd : ℕ → EndAt
-noEnd at = record { there = false; next = at; end = bottom }
+abbrev pub noneFound : ℕ → EndAt
+noneFound at = record { found = false; next = at; end = bottom }
 
 abbrev pub placeReached : EndAt → Option Place
-placeReached e = cond (e .there) (some (placeOf (e .end))) none
+placeReached e = cond (e .found) (some (placeOf (e .end))) none
 
 abbrev pub endReached : EndAt → Option Ended
-endReached e = cond (e .there) (some (record { place = placeOf (e .end); next = e .next })) none
+endReached e = cond (e .found) (some (record { place = placeOf (e .end); next = e .next })) none
 
 -- the answer to a table that is not well formed
 abbrev pub badTable : Searched

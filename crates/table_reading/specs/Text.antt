@@ -2,25 +2,24 @@
 use mathlib.Core.List.{List, [], _∷_, _++_}
 use Prim.Native.Nat.{ℕ}
 use lib.ListN.{length}
+use Rattle.records.specs.Record.{twoBytes, recordText}
 use Rattle.ranges.specs.Cut.{bot, top, before, after}
 use Rattle.ranges.specs.Range.{Range}
 use Rattle.version_roundtrip.specs.Text.{valueText}
 use Rattle.list_ends.specs.Cut.{Place}
-use Rattle.table_reading.specs.Record.{twoBytes, recordText}
+use Rattle.table_reading.specs.Kind.{rangeCount, noneBelow, fromBefore, fromAfter, noneAbove, toBefore, toAfter}
 
--- 2 none below, 3 before V, 4 after V
 abbrev pub lowerKind : Place → ℕ
-lowerKind bot = 2
-lowerKind top = 2
-lowerKind (before v) = 3
-lowerKind (after v) = 4
+lowerKind bot = noneBelow
+lowerKind top = noneBelow
+lowerKind (before v) = fromBefore
+lowerKind (after v) = fromAfter
 
--- 5 none above, 6 before V, 7 after V
 abbrev pub upperKind : Place → ℕ
-upperKind bot = 5
-upperKind top = 5
-upperKind (before v) = 6
-upperKind (after v) = 7
+upperKind bot = noneAbove
+upperKind top = noneAbove
+upperKind (before v) = toBefore
+upperKind (after v) = toAfter
 
 -- V's normal text, where there is a V
 abbrev pub bodyText : Place → List ℕ
@@ -40,4 +39,4 @@ rangesText [] = []
 rangesText (r ∷ T) = lowerText (r .lo) ++ (upperText (r .hi) ++ rangesText T)
 
 unfoldable pub tableText : List (Range Place) → List ℕ
-tableText T = recordText 1 (twoBytes (length T)) ++ rangesText T
+tableText T = recordText rangeCount (twoBytes (length T)) ++ rangesText T

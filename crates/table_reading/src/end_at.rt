@@ -1,30 +1,32 @@
 // The next end of a table, which must lie strictly above the end before it.
 use crate::body::Body;
 use crate::body::version_in;
+use crate::kind::Due;
 use crate::kind::Kind;
+use crate::kind::is_due;
 use crate::kind::kind_of;
-use crate::record::RecordAt;
-use crate::record::record_at;
 use list_ends::end::End;
 use list_ends::end::Side;
 use list_ends::end::at_most;
+use records::record::RecordAt;
+use records::record::record_at;
 use version_parts::fields::Version;
 ghost use mathlib.Core.Path.{_≡_};
+ghost use Rattle.records.specs.Record.{recordAt};
 ghost use Rattle.list_ends.specs.End.{placeOf};
-ghost use Rattle.table_reading.specs.Record.{recordAt};
 ghost use Rattle.table_reading.specs.Body.{endOf};
-ghost use Rattle.table_reading.specs.Table.{ascends, above, lowerOf, upperOf, endIn};
-ghost use Rattle.table_reading.specs.Reached.{noBody, endSaid, noEnd, placeReached, endReached};
+ghost use Rattle.table_reading.specs.Table.{ascends, above, endIn};
+ghost use Rattle.table_reading.specs.Reached.{noBody, endSaid, noneFound, placeReached, endReached};
 
-// An end that was read, and the place behind its record. Where there is none, the next place is where the first is due.
+// An end that was found, and the place after its record. Where none was found, the next one is due at `next`.
 pub struct EndAt {
-    pub there: bool,
+    pub found: bool,
     pub next: usize,
     pub end: End,
 }
 
-pub(crate) fn no_end(next: usize) -> EndAt
-    ensures { λ r. ⌜ r ≡ noEnd next ⌝ }
+pub(crate) fn none_found(next: usize) -> EndAt
+    ensures { λ r. ⌜ r ≡ noneFound next ⌝ }
 {
     let version = Version::none();
     let end = End {
@@ -32,7 +34,7 @@ pub(crate) fn no_end(next: usize) -> EndAt
         version,
     };
     EndAt {
-        there: false,
+        found: false,
         next,
         end,
     }
@@ -64,7 +66,7 @@ fn body_of(side: Side, body: &[u8]) -> Body
 fn is_above(end: End, last: EndAt) -> bool
     ensures { λ r. ⌜ r ≡ ascends (placeReached last) (placeOf end) ⌝ }
 {
-    if last.there {
+    if last.found {
         let below = last.end;
         return !at_most(end, below);
     }
@@ -78,36 +80,26 @@ fn end_above(side: Side, body: &[u8], next: usize, last: EndAt) -> EndAt
     if said.valid {
         let version = said.version;
         let end = End { side, version };
-        let there = is_above(end, last);
-        return EndAt { there, next, end };
+        let found = is_above(end, last);
+        return EndAt { found, next, end };
     }
-    no_end(next)
+    none_found(next)
 }
 
-pub(crate) fn lower_end(table: &[u8], last: EndAt) -> EndAt
-    ensures { λ r. ⌜ endReached r ≡ endIn lowerOf (placeReached last) (now (table .entry)) (recordAt (now (table .entry)) (last .next)) ⌝ }
+// The end after `last`, if it is the one that is due.
+pub(crate) fn next_end(table: &[u8], due: Due, last: EndAt) -> EndAt
+    ensures { λ r. ⌜ endReached r ≡ endIn due (placeReached last) (now (table .entry)) (recordAt (now (table .entry)) (last .next)) ⌝ }
 {
     let at = last.next;
     let RecordAt::Found(number, start, next) = record_at(table, at) else {
-        return no_end(at);
+        return none_found(at);
     };
     let kind = kind_of(number);
-    let Kind::Lower(side) = kind else {
-        return no_end(at);
+    let Kind::End(end, side) = kind else {
+        return none_found(at);
     };
-    end_above(side, &table[start..next], next, last)
-}
-
-pub(crate) fn upper_end(table: &[u8], last: EndAt) -> EndAt
-    ensures { λ r. ⌜ endReached r ≡ endIn upperOf (placeReached last) (now (table .entry)) (recordAt (now (table .entry)) (last .next)) ⌝ }
-{
-    let at = last.next;
-    let RecordAt::Found(number, start, next) = record_at(table, at) else {
-        return no_end(at);
-    };
-    let kind = kind_of(number);
-    let Kind::Upper(side) = kind else {
-        return no_end(at);
-    };
-    end_above(side, &table[start..next], next, last)
+    if is_due(due, end) {
+        return end_above(side, &table[start..next], next, last);
+    }
+    none_found(at)
 }

@@ -3,5 +3,4 @@ pub mod body;
 pub mod end_at;
 pub mod kind;
 pub mod lookup;
-pub mod record;
 pub mod search;

@@ -1,15 +1,15 @@
 // The ranges of a table, in one pass: each is read, judged and held against a place.
-use crate::end_at::lower_end;
-use crate::end_at::no_end;
-use crate::end_at::upper_end;
+use crate::end_at::next_end;
+use crate::end_at::none_found;
+use crate::kind::Due;
 use crate::kind::Kind;
 use crate::kind::kind_of;
-use crate::record::RecordAt;
-use crate::record::record_at;
-use crate::record::two_at;
 use answers::Refusal;
 use list_ends::end::End;
 use list_ends::end::at_most;
+use records::record::RecordAt;
+use records::record::record_at;
+use records::two_bytes::two_at;
 ghost use mathlib.Core.Path.{_≡_};
 ghost use mathlib.Core.Bool.{_||_};
 ghost use mathlib.Core.Option.{none};
@@ -48,20 +48,20 @@ fn held_by(earlier: bool, lower: End, upper: End, candidate: End) -> bool
     false
 }
 
-// So many ranges from a place on.
+// The next count ranges, from start on.
 fn search_ranges(table: &[u8], count: usize, start: usize, candidate: End) -> Searched
     ensures { λ r. ⌜ r ≡ searchedFor (placeOf candidate) (rangesFrom count none (now (table .entry)) start) ⌝ }
 {
     let mut held = false;
-    let mut last = no_end(start);
+    let mut last = none_found(start);
     let mut left = count;
     while 0 < left {
-        let lower = lower_end(table, last);
-        if !lower.there {
+        let lower = next_end(table, Due::Lower, last);
+        if !lower.found {
             return refused();
         }
-        let upper = upper_end(table, lower);
-        if !upper.there {
+        let upper = next_end(table, Due::Upper, lower);
+        if !upper.found {
             return refused();
         }
         let low = lower.end;

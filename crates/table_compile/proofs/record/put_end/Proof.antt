@@ -1,6 +1,7 @@
 -- `table_compile::record::put_end` meets its contract: the body tells the length of which the head in front of it speaks.
 -- Assumes nothing.
-use Rattle.table_compile.proofs.Bodies.{front-put}
+use native.Mathlib.Omega.{arith}
+use Rattle.records.proofs.Writing.{front-put}
 use borrow.Author.Needs.{needs}
 use Rattle.table_compile.proofs.record.put_end.Statement.{statement}
 use Rattle.table_compile.proofs.record.put_end.Tie as tie
@@ -10,7 +11,7 @@ written c =
     let head = c .before .before in
     let body = head .before .before .before .before in
     record {
-      wrote = front-put _ _ _ _ _ _ _ _ (body .before .before .if1 .left) (body .put-body .ensures) (head .put-head .ensures);
+      wrote = front-put 1049325 _ _ _ _ _ _ _ _ (omega arith) (body .put-body .ensures) (head .put-head .ensures);
       near = search needs;
     }
 

@@ -1,6 +1,6 @@
 -- `table_compile::record::put_far_end` meets its contract: the first run tells the length.
 -- Assumes nothing.
-use Rattle.table_compile.proofs.Bodies.{end-put}
+use Rattle.table_compile.proofs.Bodies.{far-put}
 use borrow.Author.Needs.{needs}
 use Rattle.table_compile.proofs.record.put_far_end.Statement.{statement}
 use Rattle.table_compile.proofs.record.put_far_end.Tie as tie
@@ -14,4 +14,4 @@ put-far-end-spec =
     (λ c κs. search needs)
     (λ c κs. search needs)
     (λ c. search needs)
-    (λ c. record { wrote = search end-put; near = search needs }))
+    (λ c. record { wrote = search far-put; near = search needs }))

@@ -1,6 +1,6 @@
 -- `table_lookup::plain_search::search_plainly` meets its contract: one law for each way out.
 -- Assumes nothing.
-use Rattle.table_reading.proofs.Reading.{found-ordered}
+use Rattle.records.proofs.Reading.{found-ordered}
 use Rattle.table_lookup.proofs.PlainSearch.{plain-count-read}
 use borrow.Author.Needs.{needs}
 use Rattle.table_lookup.proofs.plain_search.search_plainly.Statement.{statement}
@@ -11,7 +11,6 @@ search-plainly-spec =
     tie.close
     (tie.spec
     (λ c κs. search needs)
-    (λ c. search needs)
     (λ c. search needs)
     (λ c. search needs)
     (λ c κs. search needs)

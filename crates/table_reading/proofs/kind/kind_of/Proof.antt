@@ -1,6 +1,6 @@
 -- `table_reading::kind::kind_of` meets its contract: one law for each way out.
 -- Assumes nothing.
-use Rattle.table_reading.proofs.Numbers.{kind-count, kind-lower, kind-upper, kind-none, kind-over}
+use Rattle.table_reading.proofs.Numbers.{kind-count, kind-none, kind-over}
 use borrow.Author.Needs.{needs}
 use Rattle.table_reading.proofs.kind.kind_of.Statement.{statement}
 use Rattle.table_reading.proofs.kind.kind_of.Tie as tie
@@ -12,7 +12,7 @@ kind-of-spec =
     (λ c κs. search needs)
     (λ c κs. search needs)
     (λ c. search kind-count)
-    (λ c. search kind-lower)
-    (λ c. search kind-upper)
+    (λ c. search needs)
+    (λ c. search needs)
     (λ c. search kind-none)
     (λ c. search kind-over))

@@ -1,6 +1,6 @@
 -- `table_reading::search::search_table` meets its contract: one law for each way out.
 -- Assumes nothing.
-use Rattle.table_reading.proofs.Reading.{found-ordered}
+use Rattle.records.proofs.Reading.{found-ordered}
 use Rattle.table_reading.proofs.Searching.{first-missing, first-other, count-long, count-over, count-read}
 use borrow.Author.Needs.{needs}
 use Rattle.table_reading.proofs.search.search_table.Statement.{statement}
@@ -11,7 +11,6 @@ search-table-spec =
     tie.close
     (tie.spec
     (λ c κs. search needs)
-    (λ c. search needs)
     (λ c. search needs)
     (λ c κs. search needs)
     (λ c. search first-missing)

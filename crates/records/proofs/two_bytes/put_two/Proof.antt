@@ -1,9 +1,9 @@
--- `table_compile::record::put_two` meets its contract: two bytes in a row.
+-- `records::two_bytes::put_two` meets its contract: two bytes in a row.
 -- Assumes nothing.
-use Rattle.table_compile.proofs.Bodies.{two-put}
+use Rattle.records.proofs.Writing.{two-put}
 use borrow.Author.Needs.{needs}
-use Rattle.table_compile.proofs.record.put_two.Statement.{statement}
-use Rattle.table_compile.proofs.record.put_two.Tie as tie
+use Rattle.records.proofs.two_bytes.put_two.Statement.{statement}
+use Rattle.records.proofs.two_bytes.put_two.Tie as tie
 
 pub put-two-spec : {M : Type 1} → statement M
 put-two-spec =

@@ -1,26 +1,28 @@
--- `table_lookup::plain_end_at::lower_end` meets its contract: one law for each way out.
+-- `table_lookup::plain_end_at::next_end` meets its contract: one law for each way out.
 -- Assumes nothing.
-use Rattle.table_reading.proofs.Reading.{found-ordered, found-within, found-starts, is-lower}
+use Rattle.records.proofs.Reading.{found-ordered, found-within, found-starts}
 use Rattle.table_lookup.proofs.PlainEnds.{unended, plain-end-read}
 use borrow.Author.Needs.{needs}
-use Rattle.table_lookup.proofs.plain_end_at.lower_end.Statement.{statement}
-use Rattle.table_lookup.proofs.plain_end_at.lower_end.Tie as tie
+use Rattle.table_lookup.proofs.plain_end_at.next_end.Statement.{statement}
+use Rattle.table_lookup.proofs.plain_end_at.next_end.Tie as tie
 
-pub lower-end-spec : {M : Type 1} → statement M
-lower-end-spec =
+pub next-end-spec : {M : Type 1} → statement M
+next-end-spec =
     tie.close
     (tie.spec
     (λ c κs. search needs)
     (λ c. search needs)
-    (λ c. search needs)
     (λ c κs. search needs)
     (λ c. search unended)
     (λ c κs. search needs)
     (λ c. search needs)
     (λ c κs. search needs)
     (λ c. search unended)
+    (λ c κs. search needs)
     (λ c. search (found-ordered, needs))
     (λ c. search (found-starts, found-ordered, found-within, needs))
     (λ c. search (found-within, needs))
     (λ c κs. search needs)
-    (λ c. search (plain-end-read, is-lower)))
+    (λ c. search plain-end-read)
+    (λ c κs. search needs)
+    (λ c. search unended))

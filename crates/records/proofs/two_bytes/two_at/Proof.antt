@@ -1,9 +1,9 @@
--- `table_reading::record::two_at` meets its contract: one law for each way out.
+-- `records::two_bytes::two_at` meets its contract: one law for each way out.
 -- Assumes nothing.
-use Rattle.table_reading.proofs.Records.{two-past}
+use Rattle.records.proofs.Reading.{two-past}
 use borrow.Author.Needs.{needs}
-use Rattle.table_reading.proofs.record.two_at.Statement.{statement}
-use Rattle.table_reading.proofs.record.two_at.Tie as tie
+use Rattle.records.proofs.two_bytes.two_at.Statement.{statement}
+use Rattle.records.proofs.two_bytes.two_at.Tie as tie
 
 pub two-at-spec : {M : Type 1} → statement M
 two-at-spec =

@@ -1,9 +1,9 @@
--- `table_compile::record::put_head` meets its contract: two numbers in a row.
+-- `records::record::put_head` meets its contract: two numbers in a row.
 -- Assumes nothing.
 use Rattle.decimal.proofs.Puts.{then}
 use borrow.Author.Needs.{needs}
-use Rattle.table_compile.proofs.record.put_head.Statement.{statement}
-use Rattle.table_compile.proofs.record.put_head.Tie as tie
+use Rattle.records.proofs.record.put_head.Statement.{statement}
+use Rattle.records.proofs.record.put_head.Tie as tie
 
 pub put-head-spec : {M : Type 1} → statement M
 put-head-spec =

@@ -1,0 +1,5 @@
+pub mod Anchors
+pub mod Reading
+pub mod Writing
+pub mod Readback
+pub mod Exactly
