@@ -1,8 +1,10 @@
 -- What a label is to the value of a version's fields.
 -- Assumes nothing.
-use mathlib.Core.Path.{_≡_, refl}
+use mathlib.Core.Path.{_≡_, refl, sym, ap, _∙_}
 use mathlib.Core.List.{List, []}
 use Prim.Native.Nat.{ℕ, zero, suc, min}
+use native.Mathlib.Omega.{arith}
+use lib.ListN.{length}
 use Rattle.version_parts.specs.declared.fields.Version.{Version}
 use Rattle.version_reading.specs.Value.{withoutLabel, listed, valueOf}
 
@@ -15,7 +17,19 @@ pub no-label : (s : List ℕ) (v : Version) → v .local .len ≡ 0 → valueOf 
 unfolding valueOf listed
 no-label s v e = rw e
 
--- and without the label the text is nothing to any value
+-- and where the value has no label there is no segment
+listed-length : {A : Type 0} (f : ℕ → A) (i count : ℕ) → length (listed f i count) ≡ count
+unfolding listed
+listed-length f i zero = refl
+listed-length f i (suc count) = ap suc (listed-length f (suc i) count)
+
+pub no-segment : (s : List ℕ) (v : Version) → valueOf s v .label ≡ [] → v .local .len ≡ 0
+unfolding valueOf
+no-segment s v e =
+    let size : min (v .local .len) 16 ≡ 0 = sym (listed-length _ 0 (min (v .local .len) 16)) ∙ ap length e in
+    omega arith
+
+-- without the label the text is nothing to any value
 pub label-anywhere : (s t : List ℕ) (v : Version) → withoutLabel (valueOf s v) ≡ withoutLabel (valueOf t v)
 unfolding valueOf
 label-anywhere s t v = refl
