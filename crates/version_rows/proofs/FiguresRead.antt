@@ -35,8 +35,8 @@ module _ (s : List ℕ) (at b : ℕ) (is : b ≡ getD s at 0) (inside : b ≤ 25
   here : drop at s ≡ b ∷ drop (at + 1) s
   here = drop-cons s at 0 (omega arith) ∙ rw (← is, add-one at)
 
-  pub zero-alone : b ≡ 48 → drop at s ≡ decimal 0 ++ drop (at + 1) s
-  zero-alone e = here ∙ rw (one-digit 0 (omega arith), e)
+  pub zero-alone : b ≤ 48 → drop at s ≡ decimal 0 ++ drop (at + 1) s
+  zero-alone high = let e : b ≡ 48 = omega arith in here ∙ rw (one-digit 0 (omega arith), e)
 
   pub first-figure : (r : PartAt) → b ≤ 57 → PartRead s (decimal (b - 48) ++ drop (at + 1) s) [] r → PartRead s (drop at s) [] r
   first-figure r high p =

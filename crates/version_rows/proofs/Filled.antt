@@ -18,11 +18,12 @@ use Rattle.version_order.specs.Key.{keyOf}
 use Rattle.version_compare.proofs.Counts.{counted}
 use Rattle.version_rows.specs.Row.{postMark, postNumber, keyNumbers, sixteen, rowOf, RowOf}
 
--- the numbers in their order
-pub four-put : (epoch first second third fourth mark number : ℕ) (k : Key) → mark ≡ postMark (k .post) → number ≡ postNumber (k .post)
-    → epoch ∷ first ∷ second ∷ third ∷ fourth ∷ (replicate 12 0 ++ (k .kind ∷ k .pre ∷ mark ∷ number ∷ k .dev ∷ []))
+-- the way of `put_four`: each number in its place
+pub four-put : (epoch first second third fourth e a b c d mark number : ℕ) (k : Key) → e ≡ epoch → a ≡ first → b ≡ second → c ≡ third → d ≡ fourth
+    → mark ≡ postMark (k .post) → number ≡ postNumber (k .post)
+    → e ∷ a ∷ b ∷ c ∷ d ∷ (replicate 12 0 ++ (k .kind ∷ k .pre ∷ mark ∷ number ∷ k .dev ∷ []))
     ≡ epoch ∷ first ∷ second ∷ third ∷ fourth ∷ (replicate 12 0 ++ keyNumbers k)
-four-put epoch first second third fourth mark number k e f = rw (e, f)
+four-put epoch first second third fourth e a b c d mark number k p q r s t f g = rw (p, q, r, s, t, f, g)
 
 -- one release number more
 pub release-turn : (row numbers filled : List ℕ) (i count n : ℕ) → filled ≡ paste row 1 numbers i → length row ≡ 22

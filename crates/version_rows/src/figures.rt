@@ -70,13 +70,13 @@ pub(crate) fn figures_at(s: &[u8], at: usize) -> PartAt
             next: at,
         };
     }
-    if b == b'0' {
-        return PartAt {
-            part: MaybeNumber::Is(0),
-            next: at + 1,
-        };
+    if b'0' < b {
+        return more_figures(s, (b - b'0') as u64, at + 1);
     }
-    more_figures(s, (b - b'0') as u64, at + 1)
+    PartAt {
+        part: MaybeNumber::Is(0),
+        next: at + 1,
+    }
 }
 
 // A name and the number after it.
