@@ -1,8 +1,6 @@
 pub mod Anchors
 pub mod Numbers
 pub mod Records
-pub mod Bodies
-pub mod Written
 pub mod Reading
 pub mod Searching
 pub mod Places

@@ -1,6 +1,4 @@
 // The next end of a table, which must lie strictly above the end before it.
-use crate::body::Body;
-use crate::body::version_in;
 use crate::kind::Kind;
 use crate::kind::kind_of;
 use crate::record::RecordAt;
@@ -9,6 +7,8 @@ use list_ends::end::End;
 use list_ends::end::Side;
 use list_ends::end::at_most;
 use version_parts::fields::Version;
+use version_rows::normal::NormalReading;
+use version_rows::normal::read_normal;
 ghost use mathlib.Core.Path.{_≡_};
 ghost use Rattle.list_ends.specs.End.{placeOf};
 ghost use Rattle.table_reading.specs.Record.{recordAt};
@@ -39,24 +39,24 @@ pub(crate) fn no_end(next: usize) -> EndAt
 }
 
 // None below and none above have no body, and stand beside the blank version.
-fn no_body(body: &[u8]) -> Body
+fn no_body(body: &[u8]) -> NormalReading
     ensures { λ r. ⌜ r ≡ noBody (now (body .entry)) ⌝ }
 {
     let version = Version::none();
-    Body {
+    NormalReading {
         valid: body.len() == 0,
         version,
     }
 }
 
-fn body_of(side: Side, body: &[u8]) -> Body
+fn body_of(side: Side, body: &[u8]) -> NormalReading
     ensures { λ r. ⌜ endSaid side r ≡ endOf side (now (body .entry)) ⌝ }
 {
     match side {
         Side::Bottom => no_body(body),
         Side::Top => no_body(body),
-        Side::Before => version_in(body),
-        Side::After => version_in(body),
+        Side::Before => read_normal(body),
+        Side::After => read_normal(body),
     }
 }
 

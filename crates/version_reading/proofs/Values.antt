@@ -1,12 +1,17 @@
--- What a label is to the value of a version's fields.
+-- What the fields of a version are to its value: the release by its numbers that count, and the label.
 -- Assumes nothing.
 use mathlib.Core.Path.{_≡_, refl, sym, ap, _∙_}
 use mathlib.Core.List.{List, []}
-use Prim.Native.Nat.{ℕ, zero, suc, min}
+use Prim.Native.Nat.{ℕ, zero, suc, _≤_, min}
 use native.Mathlib.Omega.{arith}
-use lib.ListN.{length}
+use lib.ListN.{length, length-take}
 use Rattle.version_parts.specs.declared.fields.Version.{Version}
 use Rattle.version_reading.specs.Value.{withoutLabel, listed, valueOf}
+
+-- as many numbers as the release says
+pub release-count : (s : List ℕ) (v : Version) → v .release .len ≤ 16 → length (v .release .numbers) ≡ 16 → length (valueOf s v .release) ≡ v .release .len
+unfolding valueOf
+release-count s v few size = omega (arith, length-take (v .release .len) (v .release .numbers))
 
 -- without a segment the text of the label is nothing to the value
 pub same-value : (s t : List ℕ) (v : Version) → v .local .len ≡ 0 → valueOf s v ≡ valueOf t v

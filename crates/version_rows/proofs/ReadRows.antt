@@ -6,9 +6,8 @@ use mathlib.Core.List.{List, []}
 use Prim.Native.Nat.{ℕ, _≤_}
 use native.Mathlib.Omega.{arith}
 use lib.Dec.{eqb}
-use lib.ListN.{length, length-take}
+use lib.ListN.{length}
 use Rattle.answers.specs.declared.Refusal.{Refusal}
-use Rattle.version_parts.specs.declared.fields.Version.{Version}
 use Rattle.version_reading.specs.declared.plain.PlainReading.{PlainReading}
 use Rattle.version_reading.specs.declared.text.Verdict.{Verdict}
 use Rattle.version_reading.specs.declared.text.Verdict.the-variants.{Accepted, Refused}
@@ -17,7 +16,8 @@ use Rattle.version_reading.specs.Plain.{plainOf, wholeVersion}
 use Rattle.version_reading.specs.Reading.{longest, placeOf, patternAs, patternOf, versionOf, Read}
 use Rattle.version_reading.specs.Value.{Value, valueOf, valueIn}
 use Rattle.version_reading.proofs.PlainRead.{plain-said}
-use Rattle.version_roundtrip.proofs.Read.{Shaped, pattern-shape, release-shape}
+use Rattle.version_reading.proofs.Values.{release-count}
+use Rattle.version_roundtrip.proofs.Read.{pattern-shape, release-shape}
 use Rattle.version_rows.specs.declared.read.PatternRow.{PatternRow}
 use Rattle.version_rows.specs.Row.{rowOf, RowOf}
 use Rattle.version_rows.specs.Read.{rowBy, RowRead, patternRow, PatternRowRead}
@@ -59,20 +59,16 @@ version-row s old new r p = record {
     same Accepted = row-blind [] s (patternAs false s .version)
     same (Refused x) = refl
 
--- how many release numbers fields have
-shaped-count : (t : List ℕ) (v : Version) → Shaped v → length (valueOf t v .release) ≡ v .release .len
-unfolding valueOf
-shaped-count t v shape = omega (arith, length-take (v .release .len) (v .release .numbers), shape .0, shape .1)
-
+-- how many release numbers a text says
 pub pattern-count : (s t : List ℕ) → length (valueOf t (patternOf s .version) .release) ≡ patternOf s .version .release .len
-pattern-count s t = shaped-count t (patternOf s .version) (pattern-shape s)
+pattern-count s t = release-count t (patternOf s .version) (pattern-shape s .0) (pattern-shape s .1)
 
 -- there is room for them in a row
 pub pattern-few : (s t : List ℕ) → length (valueOf t (patternOf s .version) .release) ≤ 16
 pattern-few s t = omega (arith, pattern-count s t, pattern-shape s .0)
 
 pub version-few : (s t : List ℕ) → length (valueOf t (versionOf s .version) .release) ≤ 16
-version-few s t = omega (arith, shaped-count t (versionOf s .version) (release-shape s), release-shape s .0)
+version-few s t = omega (arith, release-count t (versionOf s .version) (release-shape s .0) (release-shape s .1), release-shape s .0)
 
 -- the row of a text that was accepted
 pub accepted-row : (s old new : List ℕ) (r : Verdict) → RowRead s old new r → r ≡ Accepted → RowOf (valueIn s) new
