@@ -9,8 +9,10 @@ use Rattle.order.specs.Answer.{nameOf}
 use Rattle.order.specs.declared.Order.{Order}
 use Rattle.version_parts.specs.declared.fields.Version.{Version}
 use Rattle.version_reading.specs.Value.{Value, valueOf}
-use Rattle.version_order.specs.Versions.{compareRelease, comparePublic}
+use Rattle.version_order.specs.Versions.{comparePublic}
+use Rattle.version_order.proofs.Orders.{blind-left}
 use Rattle.version_prefix.specs.Prefix.{prefixMatches, shorter}
+use Rattle.version_prefix.proofs.Labels.{match-blind}
 use Rattle.list_clauses.specs.declared.operator.Operator.{Operator}
 use Rattle.list_clauses.specs.declared.operator.Operator.the-variants.{Equal, NotEqual, Compatible, AtMost, AtLeast, Below, Above}
 use Rattle.list_clauses.specs.declared.clause.Clause.{Clause}
@@ -82,19 +84,18 @@ module _ (o : Operator) (wildcard : Bool) (v w : Value) (r : Bool) where
 -- where a candidate's label lies is nothing to what clauses accept
 module _ (t : List ℕ) (w : Version) where
   blind-equals : (wildcard : Bool) (v : Value) → equals wildcard v (valueOf [] w) ≡ equals wildcard v (valueOf t w)
-  unfolding valueOf compareRelease comparePublic prefixMatches
-  blind-equals false v = refl
-  blind-equals true v = refl
+  blind-equals false v = rw (blind-left [] t w v)
+  blind-equals true v = match-blind [] t v w
 
   blind-holds : (o : Operator) (wildcard : Bool) (v : Value) → holds o wildcard v (valueOf [] w) ≡ holds o wildcard v (valueOf t w)
-  unfolding valueOf compareRelease comparePublic prefixMatches holds
+  unfolding holds
   blind-holds Equal wildcard v = blind-equals wildcard v
   blind-holds NotEqual wildcard v = rw (blind-equals wildcard v)
-  blind-holds Compatible wildcard v = refl
-  blind-holds AtMost wildcard v = refl
-  blind-holds AtLeast wildcard v = refl
-  blind-holds Below wildcard v = refl
-  blind-holds Above wildcard v = refl
+  blind-holds Compatible wildcard v = rw (blind-left [] t w v, match-blind [] t (shorter v) w)
+  blind-holds AtMost wildcard v = rw (blind-left [] t w v)
+  blind-holds AtLeast wildcard v = rw (blind-left [] t w v)
+  blind-holds Below wildcard v = rw (blind-left [] t w v)
+  blind-holds Above wildcard v = rw (blind-left [] t w v)
 
   pub blind-clause : (c : Clause) → clauseAccepts c (valueOf [] w) ≡ clauseAccepts c (valueOf t w)
   blind-clause c = blind-holds (c .operator) (c .wildcard) (valueOf [] (c .version))

@@ -6,7 +6,7 @@ use mathlib.Core.List.{List, []}
 use Prim.Native.Nat.{ℕ, zero, suc, _+_, _≤_}
 use native.Mathlib.Omega.{arith}
 use lib.Dec.{eqb, ltb}
-use lib.ListN.{length, drop, length-take}
+use lib.ListN.{length, drop}
 use borrow.Author.Tests.{eqb-true, eqb-false}
 use Rattle.order.specs.All.{All}
 use Rattle.chars.specs.Class.{blank, between, front}
@@ -14,7 +14,8 @@ use Rattle.version_parts.specs.declared.fields.Version.{Version}
 use Rattle.version_reading.specs.declared.text.Verdict.{Verdict}
 use Rattle.version_reading.specs.declared.text.Verdict.the-variants.{Accepted, Refused}
 use Rattle.version_reading.specs.Reading.{longest, patternOf}
-use Rattle.version_reading.specs.Value.{listed, valueOf}
+use Rattle.version_reading.specs.Value.{valueOf}
+use Rattle.version_reading.proofs.Values.{release-count, same-value, no-label}
 use Rattle.version.proofs.Exactly.{row-of-refusal}
 use Rattle.version.proofs.Numbers.{refusal-numbers}
 use Rattle.version_roundtrip.proofs.ReadPlaces.{by-cond}
@@ -39,19 +40,6 @@ use Rattle.list_clauses.specs.Clause.{
 use Rattle.list_clauses.specs.List.{Listing, refused, clauses, behind, commaAfter, clauseAt, clausesFrom, listOf}
 use Rattle.list_ends.specs.Sound.{Sound}
 
--- without a segment the text of the label is nothing to the value
-pub same-value : (s t : List ℕ) (v : Version) → v .local .len ≡ 0 → valueOf s v ≡ valueOf t v
-unfolding valueOf listed
-same-value s t v e = rw e
-
-pub no-label : (s : List ℕ) (v : Version) → v .local .len ≡ 0 → valueOf s v .label ≡ []
-unfolding valueOf listed
-no-label s v e = rw e
-
-release-length : (s : List ℕ) (v : Version) → Said s v → length (valueOf s v .release) ≡ v .release .len
-unfolding valueOf
-release-length s v said = omega (arith, length-take (v .release .len) (v .release .numbers), said .few, said .size)
-
 -- a clause with a refusal says nothing
 abbrev ClauseSound : Clause → Type 0
 ClauseSound c = c .refusal ≡ 0 → Sound c
@@ -66,7 +54,7 @@ module _ (operator : Operator) (s : List ℕ) (place : ℕ) where
   read-sound : (wildcard : Bool) (v : Version) → Said s v → v .local .len ≡ 0 → tooShort operator (v .release .len) ≡ false →
       Sound (readClause operator wildcard v)
   read-sound wildcard v said e short =
-      let some : 1 ≤ v .release .len = omega (arith, said .readable .some, release-length s v said) in
+      let some : 1 ≤ v .release .len = omega (arith, said .readable .some, release-count s v (said .few) (said .size)) in
       record {
         local = e;
         some = some;

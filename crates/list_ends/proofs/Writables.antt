@@ -16,7 +16,7 @@ use Rattle.ranges.specs.Shape.{lowerEnd, upperEnd}
 use Rattle.version_reading.specs.Value.{Value}
 use Rattle.decimal.specs.Parse.{largest}
 use Rattle.version_prefix.specs.Prefix.{shorter, raised, nextRelease, carried, nextPrefix, devZero, zeroed, prefixStart}
-use Rattle.version_roundtrip.specs.Readable.{Fits}
+use Rattle.version_roundtrip.specs.Readable.{Fits, Writable}
 use Rattle.version_roundtrip.proofs.ReadPlaces.{by-cond}
 use Rattle.list_clauses.specs.declared.operator.Operator.{Operator}
 use Rattle.list_clauses.specs.declared.operator.Operator.the-variants.{Equal, NotEqual, Compatible, AtMost, AtLeast, Below, Above}
@@ -25,7 +25,6 @@ use Rattle.list_accepting.specs.Accept.{clauseValue}
 use Rattle.list_ends.specs.Cut.{Place}
 use Rattle.list_ends.specs.Shape.{endsBefore, matchEnd, shapeOf, clauseShape}
 use Rattle.list_ends.specs.Sound.{Sound}
-use Rattle.list_ends.specs.Writable.{Writable}
 
 -- where there is a version, it can be written
 abbrev pub Holds : Place → Type 0

@@ -1,16 +1,8 @@
 -- The ends that the bytes of a table can hold.
-use mathlib.Core.Path.{_≡_}
-use mathlib.Core.List.{[]}
 use Rattle.ranges.specs.Cut.{bot, top, before, after}
 use Rattle.ranges.specs.Range.{Range}
-use Rattle.version_reading.specs.Value.{Value}
-use Rattle.version_roundtrip.specs.Readable.{Readable}
+use Rattle.version_roundtrip.specs.Readable.{Writable}
 use Rattle.list_ends.specs.Cut.{Place}
-
--- a version whose normal text is read back, without local
-pub record Writable (v : Value) : Type 0 where
-  pub readable : Readable v
-  pub unlabelled : v .label ≡ []
 
 -- a lower end: none below, before V, after V
 abbrev pub Lower : Place → Type 0

@@ -1,7 +1,7 @@
 -- Rows one behind the other: each is found again at its number, and two more are added behind them.
 -- Assumes nothing.
 use mathlib.Core.Path.{_≡_, refl, _∙_, ap}
-use mathlib.Core.List.{List, _++_, append-assoc}
+use mathlib.Core.List.{List, [], _∷_, _++_, append-assoc}
 use Prim.Native.Nat.{ℕ, zero, suc, _+_, _*_, _≤_, _<_}
 use native.Mathlib.Decide.{ℕ-discrete}
 use native.Mathlib.Numerals.{add-one}
@@ -10,15 +10,14 @@ use lib.ListN.{length, length-append, drop, take-append-drop}
 use lib.Seq.{paste, take-paste, length-paste, take-all, take-at, drop-at}
 use Rattle.ranges.specs.Cut.{bot, top, before, after}
 use Rattle.list_ends.specs.Cut.{Place, lePlace}
-use Rattle.list_fold.specs.Row.{sixteen, keyNumbers, versionRow, keyRow, Short, rowsTo, rowAt, leRow, RowOf, Rows, EndsPut}
-use Rattle.version_order.specs.Versions.{key}
+use Rattle.list_fold.specs.Row.{versionRow, keyRow, Short, rowsTo, rowAt, leRow, PlaceRow, Rows, EndsPut}
+use Rattle.version_rows.specs.Row.{rowOf}
+use Rattle.version_rows.proofs.Compared.{row-long as numbers-long}
 use Rattle.version_reading.specs.Value.{Value}
-use Rattle.list_fold.proofs.Compared.{sixteen-long, rows-compare}
+use Rattle.list_fold.proofs.Compared.{rows-compare}
 
 version-row-long : (side : ℕ) (v : Value) → length (v .release) ≤ 16 → length (versionRow side v) ≡ 24
-unfolding versionRow
-version-row-long side v h =
-    omega (arith, length-append (sixteen (v .release)) (keyNumbers (key v) side), sixteen-long (v .release) h)
+version-row-long side v h = omega (arith, length-append (rowOf v) (side ∷ []), numbers-long v h)
 
 row-long : (p : Place) → Short p → length (keyRow p) ≡ 24
 unfolding keyRow
@@ -71,7 +70,7 @@ module _ (f : ℕ → Place) where
         }
 
 -- the way out of `put_ends`
-pub both-put : (m : ℕ) (p q : Place) (one other old middle new : List ℕ) → 24 * m + 48 ≤ length old → RowOf p one → RowOf q other
+pub both-put : (m : ℕ) (p q : Place) (one other old middle new : List ℕ) → 24 * m + 48 ≤ length old → PlaceRow p one → PlaceRow q other
     → middle ≡ paste old (24 * m) one 24 → new ≡ paste middle (24 * (m + 1)) other 24 → EndsPut m p q old new
 both-put m p q one other old middle new room first second e f =
     let long = row-long p (first .short) in

@@ -2,40 +2,21 @@
 use mathlib.Core.Path.{_≡_}
 use mathlib.Core.Bool.{Bool}
 use mathlib.Core.List.{List, [], _∷_, _++_}
-use Prim.Native.Nat.{ℕ, zero, suc, _*_, _-_, _≤_, compare}
+use Prim.Native.Nat.{ℕ, zero, suc, _*_, _≤_, compare}
 use lib.ListN.{length, take, drop, replicate}
 use lib.Seq.{paste}
 use Rattle.order.specs.Compare.{padded}
 use Rattle.order.specs.Preorder.{atMost}
 use Rattle.ranges.specs.Cut.{bot, top, before, after}
-use Rattle.version_parts.specs.declared.fields.MaybeNumber.{MaybeNumber}
-use Rattle.version_parts.specs.declared.fields.MaybeNumber.the-variants.{Absent as NoPart, Is as IsPart}
 use Rattle.version_reading.specs.Value.{Value}
-use Rattle.version_order.specs.declared.key.Key.{Key}
-use Rattle.version_order.specs.Versions.{key}
+use Rattle.version_rows.specs.Row.{rowOf}
 use Rattle.list_ends.specs.Cut.{Place}
 
--- a missing post is below any post
-abbrev pub postMark : MaybeNumber → ℕ
-postMark NoPart = 0
-postMark (IsPart n) = 1
+-- the level of a version, its row, and the side: 0 before and 1 after
+abbrev pub versionRow : ℕ → Value → List ℕ
+versionRow side v = 1 ∷ (rowOf v ++ (side ∷ []))
 
-abbrev pub postNumber : MaybeNumber → ℕ
-postNumber NoPart = 0
-postNumber (IsPart n) = n
-
--- what decides behind the release: the key, then the side, 0 before and 1 after
-abbrev pub keyNumbers : Key → ℕ → List ℕ
-keyNumbers k side = k .kind ∷ k .pre ∷ postMark (k .post) ∷ postNumber (k .post) ∷ k .dev ∷ side ∷ []
-
--- a release of at most 16 numbers, continued with zeros
-abbrev pub sixteen : List ℕ → List ℕ
-sixteen release = release ++ replicate (16 - length release) 0
-
-unfoldable pub versionRow : ℕ → Value → List ℕ
-versionRow side v = 1 ∷ v .epoch ∷ (sixteen (v .release) ++ keyNumbers (key v) side)
-
--- the level first: 0 below all, 2 above all
+-- the level is 0 below all, and 2 above all
 unfoldable pub keyRow : Place → List ℕ
 keyRow bot = replicate 24 0
 keyRow top = 2 ∷ replicate 23 0
@@ -53,7 +34,7 @@ pub record VersionRow (side : ℕ) (v : Value) (r : List ℕ) : Type 0 where
   pub is : r ≡ versionRow side v
   pub short : length (v .release) ≤ 16
 
-pub record RowOf (p : Place) (r : List ℕ) : Type 0 where
+pub record PlaceRow (p : Place) (r : List ℕ) : Type 0 where
   pub is : r ≡ keyRow p
   pub short : Short p
 

@@ -1,14 +1,15 @@
 -- Lists of which the shorter is continued with d: one step compares the first elements and goes on with the tails, and so the laws of
 -- an order are kept. Everything that needs the padded comparison (the prefix rule, the packed word, a loop over two lists) goes through
 -- `padded-step`. Assumes nothing.
-use mathlib.Core.Path.{_≡_, refl, _∙_}
-use mathlib.Core.List.{List, [], _∷_, tail}
+use mathlib.Core.Path.{_≡_, refl, sym, _∙_}
+use mathlib.Core.List.{List, [], _∷_, _++_, tail}
 use Prim.Native.Nat.{ℕ, zero, suc}
-use lib.ListN.{getD, drop}
-use Rattle.order.specs.Ordering.{flip, also}
+use native.Mathlib.Omega.{arith}
+use lib.ListN.{length, getD, drop, replicate}
+use Rattle.order.specs.Ordering.{eq, flip, also}
 use Rattle.order.specs.Compare.{Comparison, by, padded, headOr}
 use Rattle.order.specs.Laws.{Triangle, Laws}
-use Rattle.order.proofs.Ordering.{also-turn, also-tri}
+use Rattle.order.proofs.Ordering.{also-turn, also-tri, also-assoc}
 use Rattle.order.proofs.Derived.{reflexive}
 
 module _ {A : Type 0} {cmp : Comparison A} (L : Laws cmp) (d : A) where
@@ -55,6 +56,21 @@ module _ {A : Type 0} {cmp : Comparison A} (L : Laws cmp) (d : A) where
 
   pub padded-laws : Laws (padded cmp d)
   padded-laws = record { turn = turn; tri = tri }
+
+  -- a list that is continued with d is equal to the list
+  pub padded-continued : (a : List A) (n : ℕ) → padded cmp d (a ++ replicate n d) a ≡ eq
+  padded-continued [] zero = refl
+  padded-continued [] (suc n) = rw (reflexive L d) (padded-continued [] n)
+  padded-continued (x ∷ a) n = rw (reflexive L x) (padded-continued a n)
+
+-- two beginnings of one length decide, then what follows them
+pub padded-append : {A : Type 0} (cmp : Comparison A) (d : A) (a b k l : List A) → length a ≡ length b
+    → padded cmp d (a ++ k) (b ++ l) ≡ also (padded cmp d a b) (padded cmp d k l)
+padded-append cmp d [] [] k l h = refl
+padded-append cmp d [] (y ∷ b) k l h = absurd (omega arith)
+padded-append cmp d (x ∷ a) [] k l h = absurd (omega arith)
+padded-append cmp d (x ∷ a) (y ∷ b) k l h =
+    rw (padded-append cmp d a b k l (omega arith)) (sym (also-assoc (cmp x y) (padded cmp d a b) (padded cmp d k l)))
 
 -- what a list has from place i on
 pub head-of-drop : {A : Type 0} (d : A) (l : List A) (i : ℕ) → headOr d (drop i l) ≡ getD l i d

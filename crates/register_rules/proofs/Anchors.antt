@@ -11,8 +11,8 @@ use Rattle.version_reading.specs.Value.{listed, valueOf}
 use Rattle.version_order.specs.Versions.{compareRelease, compareKey, comparePublic}
 use Rattle.version_roundtrip.proofs.Extremes.{computed}
 use Rattle.records.specs.Record.{recordAt}
+use Rattle.version_rows.specs.Normal.{normalValue}
 use Rattle.table_reading.specs.Kind.{kindOf}
-use Rattle.table_reading.specs.Body.{versionIn}
 use Rattle.table_reading.specs.Table.{rangesFrom, tableOf}
 use Rattle.table_reading.specs.Lookup.{looked}
 use Rattle.register_entries.specs.declared.entry.Entry.{Entry}
@@ -26,7 +26,7 @@ use Rattle.register_rules.specs.Fit.{fitting, fitOf}
 
 -- where this unfolds, all that the register computes with does
 everything : List Entry → List ℕ → List ℕ → Fit
-unfolding computed fitOf fitting lowestFrom has firstFrom looked tableOf rangesFrom recordAt kindOf versionIn comparePublic compareRelease
+unfolding computed fitOf fitting lowestFrom has firstFrom looked tableOf rangesFrom recordAt kindOf normalValue comparePublic compareRelease
     compareKey valueOf listed
 everything es buffer text = fitOf es buffer text
 

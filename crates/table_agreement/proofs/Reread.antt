@@ -17,15 +17,16 @@ use Rattle.ranges.specs.Range.{Range}
 use Rattle.ranges.specs.Table.{Beyond, Asc}
 use Rattle.version_reading.specs.Value.{Value}
 use Rattle.version_roundtrip.specs.Text.{valueText}
+use Rattle.version_roundtrip.specs.Readable.{Writable}
 use Rattle.version_roundtrip.proofs.Unlabelled.{unlabelled-length}
+use Rattle.version_rows.proofs.Written.{normal-here}
 use Rattle.list_ends.specs.Cut.{Place, lePlace}
-use Rattle.list_ends.specs.Writable.{Writable, Lower, Upper, Written}
+use Rattle.list_ends.specs.Writable.{Lower, Upper, Written}
 use Rattle.table_reading.specs.declared.kind.Due.{Due}
 use Rattle.table_reading.specs.declared.kind.Due.the-variants.{Lower as IsLower, Upper as IsUpper}
 use Rattle.table_reading.specs.Kind.{rangeCount, kindOf}
 use Rattle.table_reading.specs.Text.{lowerKind, upperKind, bodyText, upperText, rangesText, tableText}
 use Rattle.table_reading.specs.Table.{endDue, ascends, Ended, endIn, ranges, rangesFrom, tableOf}
-use Rattle.table_reading.proofs.Written.{version-here}
 
 text-short : (v : Value) → Writable v → length (valueText v) < 65536
 text-short v w = omega (arith, unlabelled-length v (w .readable) (w .unlabelled))
@@ -61,15 +62,15 @@ lower-sort : (p : Place) → Lower p → Sort IsLower (lowerKind p) p
 unfolding kindOf
 lower-sort bot w = record { short = omega arith; small = omega arith; said = refl }
 lower-sort top w = absurd w
-lower-sort (before v) w = record { short = text-short v w; small = omega arith; said = rw (version-here v w) }
-lower-sort (after v) w = record { short = text-short v w; small = omega arith; said = rw (version-here v w) }
+lower-sort (before v) w = record { short = text-short v w; small = omega arith; said = rw (normal-here v w) }
+lower-sort (after v) w = record { short = text-short v w; small = omega arith; said = rw (normal-here v w) }
 
 upper-sort : (p : Place) → Upper p → Sort IsUpper (upperKind p) p
 unfolding kindOf
 upper-sort bot w = absurd w
 upper-sort top w = record { short = omega arith; small = omega arith; said = refl }
-upper-sort (before v) w = record { short = text-short v w; small = omega arith; said = rw (version-here v w) }
-upper-sort (after v) w = record { short = text-short v w; small = omega arith; said = rw (version-here v w) }
+upper-sort (before v) w = record { short = text-short v w; small = omega arith; said = rw (normal-here v w) }
+upper-sort (after v) w = record { short = text-short v w; small = omega arith; said = rw (normal-here v w) }
 
 ranges-here : (s : List ℕ) (at : ℕ) (b : Option Place) (T : List (Range Place)) → All Written T → Asc lePlace b T →
     Here s at (rangesText T) → rangesFrom (length T) b s at ≡ ranges T

@@ -1,4 +1,2 @@
-pub mod FiguresRead
-pub mod Plains
 pub mod PlainEnds
 pub mod PlainSearch

@@ -27,6 +27,7 @@ use Rattle.version_order.specs.Versions.{compareKey, comparePublic}
 use Rattle.version_compare.proofs.Steps.{Differs, decided, undecided}
 use Rattle.version_compare.proofs.Plains.{plains-compare}
 use Rattle.version_roundtrip.proofs.ReadPlaces.{by-cond}
+use Rattle.version_rows.specs.NormalPlain.{NormalPlainRead}
 use Rattle.list_ends.specs.declared.end.Side.{Side}
 use Rattle.list_ends.specs.declared.end.Side.the-variants.{Bottom, Top, Before, After}
 use Rattle.list_ends.specs.Cut.{Place, lePlace}
@@ -40,7 +41,6 @@ use Rattle.table_reading.specs.Body.{endOf}
 use Rattle.table_reading.specs.Table.{ascends, Ended, above, endIn}
 use Rattle.table_lookup.specs.declared.plain_end.PlainEnd.{PlainEnd}
 use Rattle.table_lookup.specs.declared.plain_end_at.PlainEndAt.{PlainEndAt}
-use Rattle.table_lookup.specs.Plain.{PlainRead}
 use Rattle.table_lookup.specs.PlainEnd.{glanced, wholeEnd, placePlain, plainReached, noPlainFound, BareRead, BodyRead, PlainEnded}
 
 -- how two plain versions compare, and how their first two numbers do
@@ -187,10 +187,10 @@ module _ (s : Side) (body : List ℕ) (b : PlainReading) where
   pub bare-top : s ≡ Top → BareRead body b → BodyRead s body b
   bare-top e p = record { said = λ f. rw (e, ← p .is, f); filled = p .filled }
 
-  pub plain-before : s ≡ Before → PlainRead body b → BodyRead s body b
+  pub plain-before : s ≡ Before → NormalPlainRead body b → BodyRead s body b
   plain-before e p = record { said = λ f. rw (e, p .said f); filled = p .filled }
 
-  pub plain-after : s ≡ After → PlainRead body b → BodyRead s body b
+  pub plain-after : s ≡ After → NormalPlainRead body b → BodyRead s body b
   plain-after e p = record { said = λ f. rw (e, p .said f); filled = p .filled }
 
 -- the ways of `is_above`

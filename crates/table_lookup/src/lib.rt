@@ -1,6 +1,4 @@
 // Looking a version up in a table, quickly where its ends and the version are plain: what the crate `table` answers, for less.
-mod figures;
-mod plain;
 mod plain_end;
 mod plain_end_at;
 mod plain_search;

@@ -1,5 +1,4 @@
 // The next end of a table, where it is an end at a plain version in its place; else nothing is said of it.
-use crate::plain::plain_version;
 use crate::plain_end::PlainEnd;
 use crate::plain_end::glance;
 use crate::plain_end::plain_at_most;
@@ -13,6 +12,7 @@ use table_reading::kind::is_due;
 use table_reading::kind::kind_of;
 use version_reading::plain::PlainReading;
 use version_reading::plain::not_found;
+use version_rows::normal_plain::read_normal_plain;
 ghost use mathlib.Core.Path.{_≡_};
 ghost use Rattle.records.specs.Record.{recordAt};
 ghost use Rattle.version_reading.specs.Plain.{FilledPlain};
@@ -60,8 +60,8 @@ fn plain_body(side: Side, body: &[u8]) -> PlainReading
     match side {
         Side::Bottom => bare_body(body),
         Side::Top => bare_body(body),
-        Side::Before => plain_version(body),
-        Side::After => plain_version(body),
+        Side::Before => read_normal_plain(body),
+        Side::After => read_normal_plain(body),
     }
 }
 

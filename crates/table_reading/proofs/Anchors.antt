@@ -10,16 +10,16 @@ use Rattle.ranges.specs.Cut.{top, before, after}
 use Rattle.version_reading.specs.Value.{listed, valueOf, valueIn}
 use Rattle.version_order.specs.Versions.{compareRelease, compareKey, comparePublic}
 use Rattle.version_roundtrip.proofs.Extremes.{computed}
+use Rattle.version_rows.specs.Normal.{normalValue}
 use Rattle.answers.specs.declared.YesNo.{YesNo}
 use Rattle.answers.specs.declared.YesNo.the-variants.{Yes, No, Second as Version}
 use Rattle.table_reading.specs.Kind.{kindOf}
-use Rattle.table_reading.specs.Body.{versionIn}
 use Rattle.table_reading.specs.Table.{Tabled, ranges, bad, rangesFrom, tableOf}
 use Rattle.table_reading.specs.Lookup.{looked}
 
 -- where this unfolds, all that lookup computes with does
 everything : List ℕ → List ℕ → Tabled × YesNo
-unfolding computed looked tableOf rangesFrom recordAt kindOf versionIn comparePublic compareRelease compareKey valueOf listed
+unfolding computed looked tableOf rangesFrom recordAt kindOf normalValue comparePublic compareRelease compareKey valueOf listed
 everything s t = (tableOf s, looked s t)
 
 abbrev two-ranges : List ℕ

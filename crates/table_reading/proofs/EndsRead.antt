@@ -7,31 +7,27 @@ use mathlib.Core.Option.{Option, none, some}
 use Prim.Native.Nat.{ℕ}
 use lib.Dec.{eqb}
 use lib.ListN.{length}
-use borrow.Author.Tests.{not-true, eqb-true}
+use borrow.Author.Tests.{not-true}
 use Rattle.records.specs.declared.record.RecordAt.{RecordAt}
 use Rattle.records.specs.declared.record.RecordAt.the-variants.{Found, Cut, Nothing}
 use Rattle.records.specs.Record.{bodyOf}
 use Rattle.ranges.specs.Cut.{bot, top, before, after}
 use Rattle.ranges.specs.Table.{Beyond}
-use Rattle.version_reading.specs.declared.text.Verdict.{Verdict}
-use Rattle.version_reading.specs.declared.text.Verdict.the-variants.{Accepted, Refused}
-use Rattle.version_reading.specs.Reading.{versionOf}
 use Rattle.version_reading.specs.Value.{Value}
-use Rattle.version_normal.specs.Normal.{normalText}
+use Rattle.version_roundtrip.specs.Readable.{Writable}
 use Rattle.version_roundtrip.proofs.ReadPlaces.{by-cond}
-use Rattle.version_roundtrip.proofs.Roundtrip.{accepted-readable}
+use Rattle.version_rows.specs.Normal.{normalValue}
+use Rattle.version_rows.proofs.Written.{normal-writable}
 use Rattle.list_ends.specs.Cut.{Place, lePlace}
-use Rattle.list_ends.specs.Writable.{Writable, Lower, Upper}
+use Rattle.list_ends.specs.Writable.{Lower, Upper}
 use Rattle.list_ends.specs.declared.end.Side.the-variants.{Before, After}
 use Rattle.table_reading.specs.declared.kind.Due.{Due}
 use Rattle.table_reading.specs.declared.kind.Due.the-variants.{Lower as IsLower, Upper as IsUpper}
 use Rattle.table_reading.specs.declared.kind.Kind.{Kind}
 use Rattle.table_reading.specs.declared.kind.Kind.the-variants.{Count, End, Unknown}
 use Rattle.table_reading.specs.Kind.{rangeCount, noneBelow, fromBefore, fromAfter, noneAbove, toBefore, toAfter, kindOf}
-use Rattle.chars.specs.Same.{sameBytes}
-use Rattle.table_reading.specs.Body.{inNormalText, versionIn, at, bare, endOf}
+use Rattle.table_reading.specs.Body.{at, bare, endOf}
 use Rattle.table_reading.specs.Table.{endDue, ascends, Ended, above, endIn}
-use Rattle.list_ends.proofs.Sounds.{no-label}
 
 abbrev ValueIs : (Value → Type 0) → Option Value → Type 0
 ValueIs Q none = Unit {0}
@@ -46,22 +42,12 @@ abbrev pub EndIs : (Place → Type 0) → Option Place → Option Ended → Type
 EndIs Q b none = Unit {0}
 EndIs Q b (some e) = Beyond lePlace b (e .place) × Q (e .place)
 
-version-writable : (body : List ℕ) → ValueIs Writable (versionIn body)
-unfolding versionIn
-version-writable body = go (versionOf body .verdict) refl
-  where
-    go : (v : Verdict) → versionOf body .verdict ≡ v → ValueIs Writable (inNormalText v body)
-    go (Refused x) e = tt
-    go Accepted e =
-        by-cond (ValueIs Writable) (eqb (versionOf body .version .local .len) 0)
-        (λ f.
-        by-cond (ValueIs Writable) (sameBytes (normalText body) body)
-        (λ g. record {
-          readable = accepted-readable body e;
-          unlabelled = no-label body (versionOf body .version) (eqb-true _ _ f);
-        })
-        (λ g. tt))
-        (λ f. tt)
+value-is : (Q : Value → Type 0) (o : Option Value) → ((v : Value) → o ≡ some v → Q v) → ValueIs Q o
+value-is Q none f = tt
+value-is Q (some v) f = f v refl
+
+version-writable : (body : List ℕ) → ValueIs Writable (normalValue body)
+version-writable body = value-is Writable (normalValue body) (normal-writable body)
 
 at-is : (Q : Place → Type 0) (side : Value → Place) → ((v : Value) → Writable v → Q (side v)) → (o : Option Value) → ValueIs Writable o → PlaceIs Q (at side o)
 at-is Q side f none h = tt
@@ -82,12 +68,12 @@ KindIs Count = Unit {0}
 KindIs Unknown = Unit {0}
 
 at-before : (end : Due) (body : List ℕ) → PlaceIs (OfSort end) (endOf Before body)
-at-before IsLower body = at-is Lower before (λ v w. w) (versionIn body) (version-writable body)
-at-before IsUpper body = at-is Upper before (λ v w. w) (versionIn body) (version-writable body)
+at-before IsLower body = at-is Lower before (λ v w. w) (normalValue body) (version-writable body)
+at-before IsUpper body = at-is Upper before (λ v w. w) (normalValue body) (version-writable body)
 
 at-after : (end : Due) (body : List ℕ) → PlaceIs (OfSort end) (endOf After body)
-at-after IsLower body = at-is Lower after (λ v w. w) (versionIn body) (version-writable body)
-at-after IsUpper body = at-is Upper after (λ v w. w) (versionIn body) (version-writable body)
+at-after IsLower body = at-is Lower after (λ v w. w) (normalValue body) (version-writable body)
+at-after IsUpper body = at-is Upper after (λ v w. w) (normalValue body) (version-writable body)
 
 -- by the rows of the kinds
 kind-is : (number : ℕ) → KindIs (kindOf number)

@@ -1,7 +1,5 @@
 pub mod Anchors
 pub mod Numbers
-pub mod Bodies
-pub mod Written
 pub mod Reading
 pub mod Searching
 pub mod Places

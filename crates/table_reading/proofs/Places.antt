@@ -7,29 +7,22 @@ use Rattle.ranges.specs.Cut.{bot, top, before, after}
 use Rattle.ranges.specs.Range.{Range, mem}
 use Rattle.version_parts.specs.declared.fields.Version.{Version}
 use Rattle.version_reading.specs.Value.{Value, withoutLabel, valueOf}
-use Rattle.version_order.specs.Versions.{compareRelease, comparePublic}
+use Rattle.version_reading.proofs.Values.{label-anywhere as value-anywhere}
+use Rattle.version_order.proofs.Orders.{unlabelled-right}
 use Rattle.list_ends.specs.Cut.{Place, lePlace}
-
-unlabelled-compare : (x w : Value) → comparePublic x w ≡ comparePublic x (withoutLabel w)
-unfolding comparePublic compareRelease
-unlabelled-compare x w = refl
 
 unlabelled-place : (p : Place) (w : Value) → lePlace p (before w) ≡ lePlace p (before (withoutLabel w))
 unlabelled-place bot w = refl
 unlabelled-place top w = refl
-unlabelled-place (before x) w = rw (unlabelled-compare x w)
-unlabelled-place (after x) w = rw (unlabelled-compare x w)
+unlabelled-place (before x) w = rw (unlabelled-right x w)
+unlabelled-place (after x) w = rw (unlabelled-right x w)
 
 pub unlabelled-mem : (T : List (Range Place)) (w : Value) → mem lePlace T (before w) ≡ mem lePlace T (before (withoutLabel w))
 unlabelled-mem [] w = refl
 unlabelled-mem (r ∷ T) w = rw (unlabelled-place (r .lo) w, unlabelled-place (r .hi) w, unlabelled-mem T w)
 
 -- wherever the label of the fields lies
-nowhere : (s t : List ℕ) (v : Version) → withoutLabel (valueOf s v) ≡ withoutLabel (valueOf t v)
-unfolding valueOf
-nowhere s t v = refl
-
 pub label-anywhere : (T : List (Range Place)) (s t : List ℕ) (v : Version) →
     mem lePlace T (before (valueOf s v)) ≡ mem lePlace T (before (valueOf t v))
 label-anywhere T s t v =
-    unlabelled-mem T (valueOf s v) ∙ ap (λ w. mem lePlace T (before w)) (nowhere s t v) ∙ sym (unlabelled-mem T (valueOf t v))
+    unlabelled-mem T (valueOf s v) ∙ ap (λ w. mem lePlace T (before w)) (value-anywhere s t v) ∙ sym (unlabelled-mem T (valueOf t v))

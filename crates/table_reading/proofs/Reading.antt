@@ -14,6 +14,8 @@ use Rattle.records.specs.declared.record.RecordAt.the-variants.{Found}
 use Rattle.records.specs.Record.{recordAt, bodyOf}
 use Rattle.records.proofs.Reading.{NotFound, not-found}
 use Rattle.version_reading.specs.Value.{Value, valueOf}
+use Rattle.version_rows.specs.declared.normal.NormalReading.{NormalReading}
+use Rattle.version_rows.specs.Normal.{normalValue, valueSaid}
 use Rattle.list_ends.specs.declared.end.Side.{Side}
 use Rattle.list_ends.specs.declared.end.Side.the-variants.{Bottom, Top, Before, After}
 use Rattle.list_ends.specs.Cut.{Place, lePlace}
@@ -21,10 +23,9 @@ use Rattle.list_ends.specs.End.{placeAt, placeOf}
 use Rattle.table_reading.specs.declared.kind.Kind.{Kind}
 use Rattle.table_reading.specs.declared.kind.Kind.the-variants.{Count, End, Unknown}
 use Rattle.table_reading.specs.declared.kind.Due.{Due}
-use Rattle.table_reading.specs.declared.body.Body.{Body}
 use Rattle.table_reading.specs.declared.end_at.EndAt.{EndAt}
 use Rattle.table_reading.specs.Kind.{kindOf, isDue}
-use Rattle.table_reading.specs.Body.{versionIn, at, endOf, valueSaid}
+use Rattle.table_reading.specs.Body.{at, endOf}
 use Rattle.table_reading.specs.Table.{ascends, above, endDue, endIn}
 use Rattle.table_reading.specs.Reached.{noBody, endSaid, noneFound, placeReached, endReached}
 use Rattle.table_reading.proofs.kind.Kind.{the-type}
@@ -34,17 +35,17 @@ at-said : (side : Value → Place) (said : Bool) (v : Value) → cond said (some
 at-said side true v = refl
 at-said side false v = refl
 
-module _ (side : Side) (body : List ℕ) (b : Body) where
+module _ (side : Side) (body : List ℕ) (b : NormalReading) where
   pub body-bottom : side ≡ Bottom → b ≡ noBody body → endSaid side b ≡ endOf side body
   body-bottom e f = rw (e, f)
 
   pub body-top : side ≡ Top → b ≡ noBody body → endSaid side b ≡ endOf side body
   body-top e f = rw (e, f)
 
-  pub body-before : side ≡ Before → valueSaid b ≡ versionIn body → endSaid side b ≡ endOf side body
+  pub body-before : side ≡ Before → valueSaid b ≡ normalValue body → endSaid side b ≡ endOf side body
   body-before e f = rw (e, ← f) (at-said _ (b .valid) (valueOf [] (b .version)))
 
-  pub body-after : side ≡ After → valueSaid b ≡ versionIn body → endSaid side b ≡ endOf side body
+  pub body-after : side ≡ After → valueSaid b ≡ normalValue body → endSaid side b ≡ endOf side body
   body-after e f = rw (e, ← f) (at-said _ (b .valid) (valueOf [] (b .version)))
 
 -- the ways of `is_above`
@@ -56,7 +57,7 @@ module _ (p : Place) (last : EndAt) where
   above-none e = rw e
 
 -- the ways of `end_above`
-module _ (side : Side) (body : List ℕ) (next : ℕ) (previous : Option Place) (b : Body) (e : endSaid side b ≡ endOf side body) where
+module _ (side : Side) (body : List ℕ) (next : ℕ) (previous : Option Place) (b : NormalReading) (e : endSaid side b ≡ endOf side body) where
   pub end-judged : (found : Bool) → b .valid ≡ true → found ≡ ascends previous (placeAt side (b .version)) →
       cond found (some (record { place = placeAt side (b .version); next = next })) none ≡ above previous next (endOf side body)
   end-judged found f g = rw (← e, f, g)

@@ -8,21 +8,21 @@ use lib.ListN.{length}
 use Rattle.answers.specs.Refusal.{refusal}
 use Rattle.ranges.specs.Range.{mem}
 use Rattle.version_parts.specs.Fields.{noVersion}
+use Rattle.version_rows.specs.declared.normal.NormalReading.{NormalReading}
 use Rattle.list_ends.specs.declared.end.Side.{Side}
 use Rattle.list_ends.specs.Cut.{Place, lePlace}
 use Rattle.list_ends.specs.End.{placeAt, placeOf, bottom}
-use Rattle.table_reading.specs.declared.body.Body.{Body}
 use Rattle.table_reading.specs.declared.end_at.EndAt.{EndAt}
 use Rattle.table_reading.specs.declared.search.Searched.{Searched}
 use Rattle.table_reading.specs.declared.search.Searched.the-variants.{Refused, Held}
 use Rattle.table_reading.specs.Table.{Ended, Tabled, refused, ranges}
 
 -- a body without a version, as it is right
-abbrev pub noBody : List ℕ → Body
+abbrev pub noBody : List ℕ → NormalReading
 noBody body = record { valid = eqb (length body) 0; version = noVersion }
 
 -- the end of a side at the version of a body
-abbrev pub endSaid : Side → Body → Option Place
+abbrev pub endSaid : Side → NormalReading → Option Place
 endSaid side b = cond (b .valid) (some (placeAt side (b .version))) none
 
 -- no end, and where the next is due

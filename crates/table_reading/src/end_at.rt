@@ -1,6 +1,4 @@
 // The next end of a table, which must lie strictly above the end before it.
-use crate::body::Body;
-use crate::body::version_in;
 use crate::kind::Due;
 use crate::kind::Kind;
 use crate::kind::is_due;
@@ -11,6 +9,8 @@ use list_ends::end::at_most;
 use records::record::RecordAt;
 use records::record::record_at;
 use version_parts::fields::Version;
+use version_rows::normal::NormalReading;
+use version_rows::normal::read_normal;
 ghost use mathlib.Core.Path.{_≡_};
 ghost use Rattle.records.specs.Record.{recordAt};
 ghost use Rattle.list_ends.specs.End.{placeOf};
@@ -41,24 +41,24 @@ pub(crate) fn none_found(next: usize) -> EndAt
 }
 
 // None below and none above have no body, and stand beside the blank version.
-fn no_body(body: &[u8]) -> Body
+fn no_body(body: &[u8]) -> NormalReading
     ensures { λ r. ⌜ r ≡ noBody (now (body .entry)) ⌝ }
 {
     let version = Version::none();
-    Body {
+    NormalReading {
         valid: body.len() == 0,
         version,
     }
 }
 
-fn body_of(side: Side, body: &[u8]) -> Body
+fn body_of(side: Side, body: &[u8]) -> NormalReading
     ensures { λ r. ⌜ endSaid side r ≡ endOf side (now (body .entry)) ⌝ }
 {
     match side {
         Side::Bottom => no_body(body),
         Side::Top => no_body(body),
-        Side::Before => version_in(body),
-        Side::After => version_in(body),
+        Side::Before => read_normal(body),
+        Side::After => read_normal(body),
     }
 }
 

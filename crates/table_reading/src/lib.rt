@@ -1,5 +1,4 @@
 // Range tables: their records, reading them, and looking a version up.
-pub mod body;
 pub mod end_at;
 pub mod kind;
 pub mod lookup;

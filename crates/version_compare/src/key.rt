@@ -65,7 +65,7 @@ fn dev_number(pre: Pre, post: MaybeNumber, dev: MaybeNumber) -> u64
     0
 }
 
-pub(crate) fn key_from(pre: Pre, post: MaybeNumber, dev: MaybeNumber) -> Key
+pub fn key_from(pre: Pre, post: MaybeNumber, dev: MaybeNumber) -> Key
     ensures { λ r. ⌜ r ≡ keyOf pre post dev ⌝ }
 {
     Key {

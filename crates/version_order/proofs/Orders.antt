@@ -14,7 +14,7 @@ use Rattle.order.proofs.Lists.{list-laws}
 use Rattle.order.proofs.Missing.{option-laws}
 use Rattle.order.proofs.Padded.{padded-laws}
 use Rattle.version_parts.specs.declared.fields.Version.{Version}
-use Rattle.version_reading.specs.Value.{Value, valueOf}
+use Rattle.version_reading.specs.Value.{Value, withoutLabel, valueOf}
 use Rattle.version_order.specs.Key.{postOption}
 use Rattle.version_order.specs.Versions.{compareRelease, compareKey, key, comparePublic, numberIn, textIn, compareLabel, compareValues}
 
@@ -59,7 +59,20 @@ unlabelled v w e f =
     let equal : list compareLabel (v .label) (w .label) ≡ eq = rw (e, f) in
     ap (also (comparePublic v w)) equal ∙ also-eq (comparePublic v w)
 
--- where the labels lie is nothing to the order without them
+-- a label is nothing to the order without labels
+pub unlabelled-left : (v w : Value) → comparePublic v w ≡ comparePublic (withoutLabel v) w
+unfolding compareRelease comparePublic
+unlabelled-left v w = refl
+
+pub unlabelled-right : (v w : Value) → comparePublic v w ≡ comparePublic v (withoutLabel w)
+unfolding compareRelease comparePublic
+unlabelled-right v w = refl
+
+-- nor is the text that it lies in
+pub blind-left : (s t : List ℕ) (v : Version) (w : Value) → comparePublic (valueOf s v) w ≡ comparePublic (valueOf t v) w
+unfolding valueOf compareRelease comparePublic
+blind-left s t v w = refl
+
 pub label-blind : (s t : List ℕ) (v w : Version) →
     comparePublic (valueOf [] v) (valueOf [] w) ≡ comparePublic (valueOf s v) (valueOf t w)
 unfolding valueOf compareRelease comparePublic

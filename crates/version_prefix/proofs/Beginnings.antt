@@ -1,14 +1,14 @@
 -- The ways of the functions that match a prefix.
 -- Assumes nothing.
-use mathlib.Core.Path.{_≡_, sym}
+use mathlib.Core.Path.{_≡_, refl, sym, ap}
 use mathlib.Core.Bool.{Bool, true, false, _&&_}
-use mathlib.Core.List.{List, [], _∷_, map}
+use mathlib.Core.List.{List, [], _∷_, _++_, map}
 use Prim.Native.Nat.{ℕ, zero, suc, _+_, _-_, _≤_, _<_, min}
 use native.Mathlib.Nat.{le-refl, zero-min, min-zero, suc-min-suc}
 use native.Mathlib.Numerals.{add-one}
 use native.Mathlib.Omega.{arith}
 use lib.Dec.{eqb}
-use lib.ListN.{length, getD, take, drop, length-take, drop-of-length-le}
+use lib.ListN.{length, getD, take, drop, replicate, length-take, drop-of-length-le}
 use lib.Seq.{drop-cons, take-nil, take-take}
 use borrow.Author.Needs.{length-unmapped}
 use borrow.Author.Tests.{eq-eqb, ne-eqb}
@@ -17,6 +17,23 @@ use Rattle.version_parts.specs.declared.fields.Version.{Version}
 use Rattle.version_reading.specs.Value.{valueOf}
 use Rattle.version_prefix.specs.Prefix.{begins, prefixMatches, cutTo, shorter}
 use Rattle.version_compare.proofs.Counts.{counted}
+
+-- zeros that continue the numbers make no difference
+zeros-begin : (p : List ℕ) (k : ℕ) → begins p (replicate k 0) ≡ begins p []
+zeros-begin [] k = refl
+zeros-begin (x ∷ p) zero = refl
+zeros-begin (x ∷ p) (suc k) = ap (_&&_ (eqb x 0)) (zeros-begin p k)
+
+pub begins-continued : (p l : List ℕ) (k : ℕ) → begins p (l ++ replicate k 0) ≡ begins p l
+begins-continued [] l k = refl
+begins-continued (x ∷ p) [] k = zeros-begin (x ∷ p) k
+begins-continued (x ∷ p) (y ∷ l) k = ap (_&&_ (eqb x y)) (begins-continued p l k)
+
+-- nor does what follows as many numbers as the prefix has
+pub begins-front : (p l m : List ℕ) → length p ≤ length l → begins p (l ++ m) ≡ begins p l
+begins-front [] l m h = refl
+begins-front (x ∷ p) [] m h = absurd (omega arith)
+begins-front (x ∷ p) (y ∷ l) m h = ap (_&&_ (eqb x y)) (begins-front p l m (omega arith))
 
 -- at place i of the loop no difference was found before it
 module _ (p l : List ℕ) (i : ℕ) (rest : begins (drop i p) (drop i l) ≡ begins p l) where

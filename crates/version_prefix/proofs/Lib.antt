@@ -4,3 +4,4 @@ pub mod Matches
 pub mod Bounds
 pub mod Beginnings
 pub mod Nexts
+pub mod Labels

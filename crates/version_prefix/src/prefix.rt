@@ -11,7 +11,7 @@ ghost use Rattle.version_reading.specs.Value.{valueOf};
 ghost use Rattle.version_prefix.specs.Prefix.{begins, prefixMatches, cutTo, shorter};
 
 // Whether numbers begin with those of a prefix, 0 standing where there is none.
-fn begins_with(numbers: &[u64], prefix: &[u64]) -> bool
+pub fn begins_with(numbers: &[u64], prefix: &[u64]) -> bool
     ensures { λ r. ⌜ r ≡ begins (now (prefix .entry)) (now (numbers .entry)) ⌝ }
 {
     let mut i = 0;

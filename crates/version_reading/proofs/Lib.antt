@@ -4,3 +4,4 @@ pub mod Wholes
 pub mod Plains
 pub mod PlainRead
 pub mod Segments
+pub mod Values

@@ -124,7 +124,8 @@ fn read_rest(s: &[u8], head: Head) -> PatternReading
     }
 }
 
-fn read_long(s: &[u8], wildcards: bool) -> PatternReading
+// The rules alone, for a caller that has tried `read_plain` already.
+pub fn read_by_rules(s: &[u8], wildcards: bool) -> PatternReading
     ensures { λ r. ⌜ Read (patternAs wildcards (now (s .entry))) r ⌝ }
 {
     if 1024 < s.len() {
@@ -154,7 +155,7 @@ fn read_as(s: &[u8], wildcards: bool) -> PatternReading
             version: whole(plain),
         };
     }
-    read_long(s, wildcards)
+    read_by_rules(s, wildcards)
 }
 
 pub fn read_pattern(s: &[u8]) -> PatternReading

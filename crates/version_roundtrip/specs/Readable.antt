@@ -1,7 +1,7 @@
 -- Which values a text can say, if it has room for them.
 use mathlib.Core.Path.{_≡_}
 use mathlib.Core.Bool.{true}
-use mathlib.Core.List.{List}
+use mathlib.Core.List.{List, []}
 use Prim.Native.Nat.{ℕ, _^_, _≤_, _<_}
 use lib.ListN.{length}
 use Rattle.order.specs.All.{All}
@@ -56,3 +56,8 @@ pub record Readable (v : Value) : Type 0 where
   pub dev : PartFits (v .dev)
   pub short : length (v .label) ≤ 16
   pub label : All LabelFits (v .label)
+
+-- a version whose normal text is read back, without local
+pub record Writable (v : Value) : Type 0 where
+  pub readable : Readable v
+  pub unlabelled : v .label ≡ []

@@ -1,0 +1,11 @@
+pub mod Anchors
+pub mod Compared
+pub mod Begun
+pub mod Labels
+pub mod Filled
+pub mod ReadRows
+pub mod FiguresRead
+pub mod Written
+pub mod NormalPlains
+pub mod NormalTexts
+pub mod Unique
