@@ -15,7 +15,7 @@ use Rattle.answers.specs.declared.Measured.{Measured}
 use Rattle.answers.specs.declared.Measured.the-variants.{Length, Refused as NotWritten}
 use Rattle.answers.specs.Printed.{answer, filled, Printed}
 use Rattle.version_parts.specs.declared.fields.Version.{Version}
-use Rattle.version_reading.specs.declared.text.Reading.{Reading}
+use Rattle.version_reading.specs.declared.text.VersionReading.{VersionReading}
 use Rattle.version_reading.specs.declared.text.Verdict.the-variants.{Accepted, Refused}
 use Rattle.version_reading.specs.Reading.{versionOf}
 use Rattle.version_reading.specs.Value.{valueOf, valueIn}
@@ -59,7 +59,7 @@ module _ (body : List ℕ) (v : Version) (e : v ≡ versionOf body .version) (ac
         h ∙ rw (left, all, ← e, take-append-seam (versionText body v) (drop (length (versionText body v)) old))
 
 -- what was read of the body
-module _ (body : List ℕ) (read : Reading) (d : read ≡ versionOf body) where
+module _ (body : List ℕ) (read : VersionReading) (d : read ≡ versionOf body) where
   pub body-fields : read .version ≡ versionOf body .version
   body-fields = rw d
 

@@ -4,12 +4,12 @@ use mathlib.Core.Path.{_≡_, sym, _∙_}
 use mathlib.Core.List.{List}
 use Prim.Native.Nat.{ℕ}
 use Rattle.answers.specs.declared.Measured.{Measured}
-use Rattle.version_reading.specs.declared.text.Reading.{Reading}
+use Rattle.version_reading.specs.declared.text.VersionReading.{VersionReading}
 use Rattle.version_reading.specs.declared.text.PatternReading.{PatternReading}
 use Rattle.version_reading.specs.Reading.{Read, VersionRead}
 use Rattle.version_normal.specs.Normal.{NormalPrinted}
 
-pub one-reading : {spec r q : Reading} → VersionRead spec r → VersionRead spec q → r ≡ q
+pub one-reading : {spec r q : VersionReading} → VersionRead spec r → VersionRead spec q → r ≡ q
 one-reading p q = p .is ∙ sym (q .is)
 
 pub one-pattern : {spec r q : PatternReading} → Read spec r → Read spec q → r ≡ q

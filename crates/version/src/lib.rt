@@ -2,7 +2,7 @@
 use answers::Measured;
 use version_order::compared::Compared;
 use version_reading::text::PatternReading;
-use version_reading::text::Reading;
+use version_reading::text::VersionReading;
 use version_reading::text::read_pattern;
 use version_reading::text::read_version;
 use version_word::packed::Worded;
@@ -14,7 +14,7 @@ ghost use Rattle.version_reading.specs.Segment.{segmentText};
 ghost use Rattle.version_word.specs.Worded.{wordAnswer};
 
 // The fields of a version, or its refusal.
-pub fn read(text: &[u8]) -> Reading
+pub fn read(text: &[u8]) -> VersionReading
     ensures { λ r. ⌜ VersionRead (versionOf (now (text .entry))) r ⌝ }
 {
     read_version(text)

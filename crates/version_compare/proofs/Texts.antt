@@ -8,7 +8,7 @@ use Rattle.order.specs.Answer.{nameOf}
 use Rattle.order.specs.declared.Order.{Order}
 use Rattle.order.specs.declared.Order.the-variants.{Equal}
 use Rattle.version_parts.specs.declared.fields.Version.{Version}
-use Rattle.version_reading.specs.declared.text.Reading.{Reading}
+use Rattle.version_reading.specs.declared.text.VersionReading.{VersionReading}
 use Rattle.version_reading.specs.declared.text.Verdict.the-variants.{Accepted, Refused}
 use Rattle.version_reading.specs.Reading.{versionOf}
 use Rattle.version_reading.specs.Value.{valueOf}
@@ -44,12 +44,12 @@ module _ (s t : List ℕ) (v w : Version) (r : Order) (e : r ≡ nameOf (compare
   versions-agree q f g = undecided r q (comparePublic (valueOf s v) (valueOf t w)) _ public f g
 
 -- two texts: what was read of them, and the verdicts
-module _ (s t : List ℕ) (one : Reading) (d : one ≡ versionOf s) where
+module _ (s t : List ℕ) (one : VersionReading) (d : one ≡ versionOf s) where
   pub first-refused : (x : Refusal) → one .verdict ≡ Refused x → First x ≡ compared s t
   unfolding compared
   first-refused x e = rw (← d, e)
 
-  module _ (other : Reading) (f : other ≡ versionOf t) (e : one .verdict ≡ Accepted) where
+  module _ (other : VersionReading) (f : other ≡ versionOf t) (e : one .verdict ≡ Accepted) where
     pub second-refused : (x : Refusal) → other .verdict ≡ Refused x → Second x ≡ compared s t
     unfolding compared
     second-refused x g = rw (← d, ← f, e, g)

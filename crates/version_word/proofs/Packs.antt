@@ -15,7 +15,7 @@ use Rattle.answers.specs.declared.Refusal.{Refusal}
 use Rattle.version_parts.specs.declared.fields.Pre.{Pre}
 use Rattle.version_parts.specs.declared.fields.MaybeNumber.{MaybeNumber}
 use Rattle.version_parts.specs.declared.fields.Version.{Version}
-use Rattle.version_reading.specs.declared.text.Reading.{Reading}
+use Rattle.version_reading.specs.declared.text.VersionReading.{VersionReading}
 use Rattle.version_reading.specs.declared.text.Verdict.the-variants.{Accepted, Refused as NotRead}
 use Rattle.version_reading.specs.Reading.{accepted, patternAs, versionOf}
 use Rattle.version_reading.specs.declared.plain.PlainReading.{PlainReading}
@@ -114,7 +114,7 @@ module _ (pre : Pre) (post dev : MaybeNumber) (kind : ℕ) (e : kind ≡ kindOf 
         record { fits = omega (arith, room, kind-digit pre post dev) }
 
 -- the verdict on the text
-module _ (s : List ℕ) (read : Reading) (d : read ≡ versionOf s) where
+module _ (s : List ℕ) (read : VersionReading) (d : read ≡ versionOf s) where
   pub text-refused : (x : Refusal) → read .verdict ≡ NotRead x → Refused x ≡ wordAnswer s
   unfolding wordAnswer
   text-refused x e = rw (← d, e)
