@@ -24,8 +24,8 @@ use Rattle.version_order.specs.Versions.{compareValues}
 use Rattle.version_compare.specs.Plain.{compareNumbers, comparePlains}
 use Rattle.version_compare.proofs.Plains.{plains-order}
 use Rattle.version_word.specs.declared.packed.Word.{Word}
-use Rattle.version_word.specs.Small.{smallNumbers, smallRelease, onlySuffix, smallSuffix, noLabel, isSmall, releaseWord, wordOf}
-use Rattle.version_word.specs.Beside.{wordIs, wordIf, wordBeside, packedWord, plainWord}
+use Rattle.version_word.specs.Small.{smallRelease, onlySuffix, smallSuffix, noLabel, isSmall, releaseWord, wordOf}
+use Rattle.version_word.specs.Beside.{wordIf, wordBeside, packedWord, plainWord}
 use Rattle.version_word.specs.Worded.{wordedIf, worded, wordedBy}
 use Rattle.version_word.proofs.Words.{word-compare}
 

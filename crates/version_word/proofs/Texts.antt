@@ -1,6 +1,6 @@
 -- The word of the version that a text says, by what was read of the text.
 -- Assumes nothing.
-use mathlib.Core.Path.{_≡_, sym, _∙_, ap}
+use mathlib.Core.Path.{_≡_, _∙_, ap}
 use mathlib.Core.Bool.{true, false}
 use mathlib.Core.List.{List, []}
 use Prim.Native.Nat.{ℕ}
@@ -19,10 +19,15 @@ use Rattle.version_word.specs.Beside.{wordIs, wordBeside, plainWord, wor
 use Rattle.version_word.specs.Worded.{wordAnswer, wordedBy}
 use Rattle.version_word.proofs.Beside.{plain-word, beside-blind, beside-answer}
 
--- an accepted text's word, as an answer
-in-answer : (s : List ℕ) → versionOf s .verdict ≡ Accepted → wordedBy (wordIn s) ≡ wordAnswer s
-unfolding wordIn wordAnswer
-in-answer s e = rw e (beside-answer (valueIn s))
+-- an accepted text's word, and as an answer
+module _ (s : List ℕ) (e : versionOf s .verdict ≡ Accepted) where
+  pub in-accepted : wordIn s ≡ wordBeside (valueIn s)
+  unfolding wordIn
+  in-accepted = rw e
+
+  in-answer : wordedBy (wordIn s) ≡ wordAnswer s
+  unfolding wordAnswer
+  in-answer = rw (in-accepted, e) (beside-answer (valueIn s))
 
 -- the quick reading q found it
 module _ (s : List ℕ) (q : PlainReading) (w : Word) (e : q ≡ plainOf s) (f : q .found ≡ true) (g : FilledPlain (q .plain)) (h : w ≡ plainWord (q .plain)) where
