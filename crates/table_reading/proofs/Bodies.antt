@@ -75,7 +75,7 @@ module _ (body : List ℕ) (read : VersionReading) (d : read ≡ versionOf body)
     unfolding versionIn
     body-labelled f = rw (← d, e, ← d, ne-eqb _ _ f)
 
-    pub body-read : (valid : Bool) → read .version .local .len ≡ 0 → valid ≡ sameBytes (normalText body) body →
-        cond valid (some (valueOf [] (read .version))) none ≡ versionIn body
+    pub body-read : (v : Version) (valid : Bool) → v ≡ read .version → v .local .len ≡ 0 → valid ≡ sameBytes (normalText body) body →
+        cond valid (some (valueOf [] v)) none ≡ versionIn body
     unfolding versionIn
-    body-read valid f g = rw (← d, e, ← d, eq-eqb _ _ f, g, same-value [] body (read .version) f)
+    body-read v valid h f g = rw (← d, e, ← d, ← h, eq-eqb _ _ f, g, same-value [] body v f)
