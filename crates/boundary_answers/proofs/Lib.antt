@@ -1,3 +1,2 @@
 pub mod Plains
 pub mod Tells
-pub mod Words

@@ -10,9 +10,9 @@ use borrow.Author.Tests.{lt-ltb, le-ltb}
 use Rattle.answers.specs.Refusal.{refusal}
 use Rattle.version_parts.specs.declared.fields.Version.{Version}
 use Rattle.version_parts.specs.Fields.{noVersion}
-use Rattle.version_reading.specs.declared.text.Reading.{Reading}
 use Rattle.version_reading.specs.declared.text.Verdict.the-variants.{Refused}
-use Rattle.version_reading.specs.Reading.{VersionRead, versionOf}
+use Rattle.version.specs.declared.reading.Reading.{Reading}
+use Rattle.version.specs.Reading.{TextRead}
 use Rattle.fragment_rules.specs.declared.answer.Says.the-variants.{Nothing, Given}
 use Rattle.fragment_rules.specs.Reader.{Said, given, saidBy}
 use Rattle.fragment_reader.specs.Hold.{readerBy}
@@ -27,13 +27,13 @@ module _ (s : List ℕ) (count : ℕ) (ended : Bool) where
   too-long-said v h e = record { is = rw (lt-ltb 1024 count h, e); few = rw e (omega arith); short = rw e (omega arith); near = omega arith }
 
   pub text-said : (part : List ℕ) (r : Reading) → count ≤ 1024 → ended ≡ true → part ≡ take (count - 0) (drop 0 s) →
-      VersionRead (versionOf part) r → Said (saidBy (readerBy s count ended)) (record { says = Given (r .verdict); version = r .version })
+      TextRead part r → Said (saidBy (readerBy s count ended)) (record { says = Given (r .verdict); version = r .version })
   unfolding saidBy
   text-said part r h e f g = record {
-    is = rw (le-ltb 1024 count h, e, ← first-part s part count f) (ap given (g .is));
-    few = g .few;
-    short = g .short;
-    near = g .near;
+    is = rw (le-ltb 1024 count h, e, ← first-part s part count f) (ap given (g .fields .is));
+    few = g .fields .few;
+    short = g .fields .short;
+    near = g .fields .near;
   }
 
   pub nothing-said : (v : Version) → count ≤ 1024 → ended ≡ false → v ≡ noVersion →

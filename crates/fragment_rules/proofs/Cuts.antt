@@ -8,7 +8,7 @@ use Prim.Native.Nat.{ℕ, _≤_, _<_}
 use lib.ListN.{length, take}
 use borrow.Author.Tests.{lt-ltb, le-ltb}
 use Rattle.version_reading.specs.declared.text.Verdict.{Verdict}
-use Rattle.version_reading.specs.declared.text.Reading.{Reading}
+use Rattle.version_reading.specs.declared.text.VersionReading.{VersionReading}
 use Rattle.version_reading.specs.Reading.{longest, versionOf}
 use Rattle.fragment_rules.specs.declared.answer.Says.the-variants.{Nothing, Given}
 use Rattle.fragment_rules.specs.declared.answer.Answer.{Answer}
@@ -60,7 +60,7 @@ at-once ls h = said-lumps ls ∙ rw (lt-ltb longest (length (joinedUp ls)) h)
 some-said : (a : Answer) (v : Verdict) → a .says ≡ Given v → a ≡ nothing → true ≡ false
 some-said a v e h = let z : a .says ≡ Nothing = ap (λ (a : Answer). a .says) h in cc
 
-said-if : (x : Reading) (long ended : Bool) → (cond long tooLong (cond ended (given x) nothing) ≡ nothing) ↔ (cond long true ended ≡ false)
+said-if : (x : VersionReading) (long ended : Bool) → (cond long tooLong (cond ended (given x) nothing) ≡ nothing) ↔ (cond long true ended ≡ false)
 said-if x true ended = (some-said tooLong _ refl, λ e. cc)
 said-if x false true = (some-said (given x) _ refl, λ e. cc)
 said-if x false false = (λ e. refl, λ e. refl)

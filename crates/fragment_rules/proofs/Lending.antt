@@ -12,7 +12,7 @@ use lib.Seq.{length-sets, take-at, take-take, take-append-le, getD-append-add}
 use borrow.Author.Tests.{le-ltb}
 use Rattle.answers.specs.declared.Refusal.{Refusal}
 use Rattle.version_reading.specs.declared.text.Verdict.the-variants.{Accepted, Refused}
-use Rattle.version_reading.specs.declared.text.Reading.{Reading}
+use Rattle.version_reading.specs.declared.text.VersionReading.{VersionReading}
 use Rattle.version_reading.specs.Reading.{longest, versionOf}
 use Rattle.fragment_rules.specs.declared.reader.Reader.{Reader}
 use Rattle.fragment_rules.specs.Reader.{fresh, counted, added, taken, marked, settled, given, saidBy}
@@ -183,7 +183,7 @@ module _ (s : List ℕ) (accepted : versionOf (textIn s) .verdict ≡ Accepted) 
   not-overfull h =
       let shown = ap length (shown-by true (long-settled (readerIn s) h)) ∙ length-take (readerIn s .count) s in
       let long : longest < length (textIn s) = omega (arith, shown, counted-there s h) in
-      accepted-refused (sym accepted ∙ ap (λ (r : Reading). r .verdict) (long-reading (textIn s) long))
+      accepted-refused (sym accepted ∙ ap (λ (r : VersionReading). r .verdict) (long-reading (textIn s) long))
 
   there : settled (readerIn s) ≡ true
   there = go (settled (readerIn s)) refl

@@ -9,7 +9,7 @@ use lib.Seq.{sets}
 use Rattle.answers.specs.Refusal.{refusal}
 use Rattle.version_parts.specs.Fields.{noVersion}
 use Rattle.version_reading.specs.declared.text.Verdict.the-variants.{Refused}
-use Rattle.version_reading.specs.declared.text.Reading.{Reading}
+use Rattle.version_reading.specs.declared.text.VersionReading.{VersionReading}
 use Rattle.version_reading.specs.Reading.{longest, placeOf, versionOf}
 use Rattle.fragment_rules.specs.declared.answer.Says.{Says}
 use Rattle.fragment_rules.specs.declared.answer.Says.the-variants.{Nothing, Given}
@@ -49,7 +49,7 @@ abbrev pub settled : Reader → Bool
 settled r = cond (overfull r) true (r .ended)
 
 -- what was read, as an answer
-abbrev pub given : Reading → Answer
+abbrev pub given : VersionReading → Answer
 given r = record { says = Given (r .verdict); version = r .version }
 
 abbrev pub nothing : Answer

@@ -13,7 +13,7 @@ use Rattle.decimal.specs.Parse.{numberOf, valueFrom}
 use Rattle.version_parts.specs.declared.fields.Span.{Span}
 use Rattle.version_reading.specs.declared.segment.Segment.{Segment}
 use Rattle.version_reading.specs.declared.segment.Segment.the-variants.{Number as IsNumber, Text}
-use Rattle.version_reading.specs.declared.text.Reading.{Reading}
+use Rattle.version_reading.specs.declared.text.VersionReading.{VersionReading}
 use Rattle.version_parts.specs.Fields.{noSpan}
 use Rattle.version_reading.specs.Reading.{versionOf}
 use Rattle.version_reading.specs.Segment.{segmentOf, segmentBytes, segmentText, spanned, textOnly}
@@ -52,7 +52,7 @@ lies s g i false false true e f = part-lies s g
 lies s g i false false false e f = absurd (omega (arith, leb-false 16 i e, ltb-false i 16 f))
 
 -- the segment's bytes b, of the version that was read, and what they say
-module _ (s : List ℕ) (i : ℕ) (read : Reading) (b : List ℕ) (r : Segment)
+module _ (s : List ℕ) (i : ℕ) (read : VersionReading) (b : List ℕ) (r : Segment)
     (d : read ≡ versionOf s) (e : b ≡ segmentBytes s (read .version .local) i) (f : r ≡ segmentOf b) where
   module _ (n : ℕ) (g : r ≡ IsNumber n) where
     pub no-length : 0 ≡ length (segmentText s i)

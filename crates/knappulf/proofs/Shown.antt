@@ -11,7 +11,7 @@ use Rattle.answers.specs.Refusal.{refusal}
 use Rattle.order.specs.declared.Order.{Order}
 use Rattle.version_reading.specs.declared.text.Verdict.{Verdict}
 use Rattle.version_reading.specs.declared.text.Verdict.the-variants.{Accepted, Refused}
-use Rattle.version_reading.specs.declared.text.Reading.{Reading}
+use Rattle.version_reading.specs.declared.text.VersionReading.{VersionReading}
 use Rattle.version_reading.specs.Reading.{longest, versionOf}
 use Rattle.version_reading.specs.Segment.{segmentBytes, segmentText}
 use Rattle.version_reading.specs.Value.{Value}
@@ -34,7 +34,7 @@ by-alike ask long (Alike.same e) = ap ask e
 by-alike ask long (Alike.both-long h k) = long h k
 
 verdict : (s : List ℕ) → longest < length s → versionOf s .verdict ≡ Refused (refusal 8 longest)
-verdict s h = ap (λ (r : Reading). r .verdict) (long-reading s h)
+verdict s h = ap (λ (r : VersionReading). r .verdict) (long-reading s h)
 
 -- a version that is refused is not looked at: where something else is judged before it, by that
 second-refused : (first : Verdict) (x : Refusal) (o p : Order) → judged first (Refused x) o ≡ judged first (Refused x) p

@@ -17,6 +17,7 @@ use version_reading::segment::Segment;
 use version_reading::segment::segment_bytes;
 use version_reading::segment::segment_of;
 use version_reading::text::Verdict;
+use version_reading::text::read_by_rules;
 ghost use mathlib.Core.Path.{_≡_};
 ghost use mathlib.Core.Bool.{false};
 ghost use lib.ListN.{length};
@@ -46,7 +47,7 @@ pub extern "C" fn knappulf_read(text: &[u8], fields: &mut [u64; 89], answer: &mu
         put_plain(fields, plain);
         return tell(of_verdict(Verdict::Accepted, false), answer);
     }
-    let read = version::read(text);
+    let read = read_by_rules(text, false);
     let verdict = read.verdict;
     let version = read.version;
     put_accepted(fields, text, verdict, version);
@@ -65,7 +66,7 @@ pub extern "C" fn knappulf_pattern(text: &[u8], fields: &mut [u64; 89], answer: 
         put_plain(fields, plain);
         return tell(of_verdict(Verdict::Accepted, false), answer);
     }
-    let read = version::pattern(text);
+    let read = read_by_rules(text, true);
     let verdict = read.verdict;
     let version = read.version;
     put_accepted(fields, text, verdict, version);

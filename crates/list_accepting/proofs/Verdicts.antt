@@ -14,7 +14,7 @@ use Rattle.answers.specs.Refusal.{refusal}
 use Rattle.answers.specs.YesNo.{yesOrNo}
 use Rattle.chars.specs.Class.{blank, between, front}
 use Rattle.version_parts.specs.declared.fields.Version.{Version}
-use Rattle.version_reading.specs.declared.text.Reading.{Reading}
+use Rattle.version_reading.specs.declared.text.VersionReading.{VersionReading}
 use Rattle.version_reading.specs.declared.text.Verdict.{Verdict}
 use Rattle.version_reading.specs.declared.text.Verdict.the-variants.{Accepted, Refused}
 use Rattle.version_reading.specs.Reading.{versionOf}
@@ -125,7 +125,7 @@ blind-list : (l : Listing) (t : List ℕ) (w : Version) → judgedBy l Accepted 
 blind-list (refused number place) t w = refl
 blind-list (clauses cs) t w = ap yesOrNo (blind-all t w cs)
 
-module _ (s t : List ℕ) (read : Reading) (q : YesNo) (d : read ≡ versionOf t) (e : q ≡ judgedBy (listOf s) Accepted (valueOf [] (read .version))) where
+module _ (s t : List ℕ) (read : VersionReading) (q : YesNo) (d : read ≡ versionOf t) (e : q ≡ judgedBy (listOf s) Accepted (valueOf [] (read .version))) where
   pub list-refused : (x : Refusal) → q ≡ OfList x → OfList x ≡ accepted s t
   unfolding accepted
   list-refused x f = list-first (listOf s) _ (valueOf [] (read .version)) _ x (sym e ∙ f)

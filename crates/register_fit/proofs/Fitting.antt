@@ -11,7 +11,7 @@ use borrow.Author.Tests.{eq-eqb, ne-eqb, lt-ltb, le-ltb}
 use Rattle.answers.specs.declared.Refusal.{Refusal}
 use Rattle.answers.specs.Refusal.{refusal}
 use Rattle.version_reading.specs.declared.text.Verdict.{Verdict}
-use Rattle.version_reading.specs.declared.text.Reading.{Reading}
+use Rattle.version_reading.specs.declared.text.VersionReading.{VersionReading}
 use Rattle.version_reading.specs.Reading.{versionOf}
 use Rattle.register_entries.specs.declared.entry.Entry.{Entry}
 use Rattle.register_rules.specs.declared.rule.Rule.the-variants.{Zero, Taken, Outside}
@@ -66,7 +66,7 @@ module _ (l : List Entry) (buffer text : List ℕ) (n : ℕ) (few : n ≤ 64) wh
         unfolding fitOf
         outside-found f = rw (count-few, ← z, ← t, ← o, eq-eqb (zero .number) 0 z0, eq-eqb (taken .number) 0 t0) (unless-refused outside _ f)
 
-        pub none-found : outside .number ≡ 0 → (v : Reading) (s : Searched) (r : Fit) → v ≡ versionOf text → s ≡ searchedIn buffer text (take n l) →
+        pub none-found : outside .number ≡ 0 → (v : VersionReading) (s : Searched) (r : Fit) → v ≡ versionOf text → s ≡ searchedIn buffer text (take n l) →
             r ≡ judged (v .verdict) s → r ≡ fitOf (take n l) buffer text
         unfolding fitOf
         none-found o0 v s r g e f =

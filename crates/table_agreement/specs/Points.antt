@@ -12,7 +12,8 @@ use Rattle.version_order.specs.declared.compared.Compared.{Compared}
 use Rattle.version_order.specs.declared.compared.Compared.the-variants.{Less, Equal}
 use Rattle.version_order.specs.Compared.{compared}
 use Rattle.version_word.specs.declared.packed.Worded.the-variants.{Word}
-use Rattle.version_word.specs.Worded.{wordIs, wordAnswer}
+use Rattle.version_word.specs.Beside.{wordIs}
+use Rattle.version_word.specs.Worded.{wordAnswer}
 use Rattle.answers.specs.declared.YesNo.{YesNo}
 use Rattle.answers.specs.declared.YesNo.the-variants.{Yes, No}
 use Rattle.list_clauses.specs.List.{Listing, refused, clauses, listOf}

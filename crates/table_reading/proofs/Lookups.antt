@@ -7,7 +7,7 @@ use Prim.Native.Nat.{ℕ}
 use Rattle.answers.specs.declared.Refusal.{Refusal}
 use Rattle.ranges.specs.Cut.{before}
 use Rattle.ranges.specs.Range.{mem}
-use Rattle.version_reading.specs.declared.text.Reading.{Reading}
+use Rattle.version_reading.specs.declared.text.VersionReading.{VersionReading}
 use Rattle.version_reading.specs.declared.text.Verdict.{Verdict}
 use Rattle.version_reading.specs.declared.text.Verdict.the-variants.{Refused as NotAccepted}
 use Rattle.version_reading.specs.Reading.{versionOf}
@@ -26,7 +26,7 @@ pub judge-refused : (v : Verdict) (held : Bool) (x : Refusal) → v ≡ NotAccep
 judge-refused v held x e = rw e
 
 -- what was read of the version, and what searching the table for it answered
-module _ (s t : List ℕ) (read : Reading) (d : read ≡ versionOf t) (q : Searched)
+module _ (s t : List ℕ) (read : VersionReading) (d : read ≡ versionOf t) (q : Searched)
     (e : q ≡ searchedFor (before (valueOf [] (read .version))) (tableOf s)) where
   pub lookup-refused : (x : Refusal) → q ≡ Refused x → Table x ≡ looked s t
   unfolding looked

@@ -6,4 +6,6 @@ pub mod Answers
 pub mod Covering
 pub mod Exactly
 pub mod Numbers
+pub mod Readings
+pub mod Compares
 pub mod Unique

@@ -1,16 +1,18 @@
 -- Two results that meet one statement are the same.
 -- Assumes nothing.
-use mathlib.Core.Path.{_≡_, sym, _∙_}
+use mathlib.Core.Path.{_≡_, refl, sym, _∙_}
 use mathlib.Core.List.{List}
 use Prim.Native.Nat.{ℕ}
 use Rattle.answers.specs.declared.Measured.{Measured}
-use Rattle.version_reading.specs.declared.text.Reading.{Reading}
 use Rattle.version_reading.specs.declared.text.PatternReading.{PatternReading}
-use Rattle.version_reading.specs.Reading.{Read, VersionRead}
+use Rattle.version_reading.specs.Reading.{Read}
 use Rattle.version_normal.specs.Normal.{NormalPrinted}
+use Rattle.version.specs.declared.reading.Reading.{Reading}
+use Rattle.version.specs.Reading.{TextRead}
+use Rattle.version.proofs.Readings.{verdict-read, version-read}
 
-pub one-reading : {spec r q : Reading} → VersionRead spec r → VersionRead spec q → r ≡ q
-one-reading p q = p .is ∙ sym (q .is)
+pub one-reading : {s : List ℕ} {r q : Reading} → TextRead s r → TextRead s q → r ≡ q
+one-reading p q = rw (verdict-read p, version-read p, p .word) (rw (verdict-read q, version-read q, q .word) refl)
 
 pub one-pattern : {spec r q : PatternReading} → Read spec r → Read spec q → r ≡ q
 one-pattern p q = p .is ∙ sym (q .is)

@@ -1,23 +1,30 @@
 // The version layer's promises: each entry point takes any bytes, and says all of its answer.
+mod comparing;
+pub mod reading;
+
+use crate::comparing::compare_texts;
+use crate::reading::Reading;
+use crate::reading::read_from;
 use answers::Measured;
 use version_order::compared::Compared;
+use version_reading::plain::read_plain;
 use version_reading::text::PatternReading;
-use version_reading::text::Reading;
 use version_reading::text::read_pattern;
-use version_reading::text::read_version;
 use version_word::packed::Worded;
 ghost use mathlib.Core.Path.{_≡_};
 ghost use Rattle.version_order.specs.Compared.{compared};
 ghost use Rattle.version_normal.specs.Normal.{NormalPrinted};
-ghost use Rattle.version_reading.specs.Reading.{Read, VersionRead, patternOf, versionOf};
+ghost use Rattle.version_reading.specs.Reading.{Read, patternOf};
 ghost use Rattle.version_reading.specs.Segment.{segmentText};
 ghost use Rattle.version_word.specs.Worded.{wordAnswer};
+ghost use Rattle.version.specs.Reading.{TextRead};
 
-// The fields of a version, or its refusal.
+// The fields of a version and its word, or its refusal.
 pub fn read(text: &[u8]) -> Reading
-    ensures { λ r. ⌜ VersionRead (versionOf (now (text .entry))) r ⌝ }
+    ensures { λ r. ⌜ TextRead (now (text .entry)) r ⌝ }
 {
-    read_version(text)
+    let quick = read_plain(text);
+    read_from(text, quick)
 }
 
 // The fields of a version that a wildcard may follow, or its refusal.
@@ -45,7 +52,7 @@ pub fn normal(text: &[u8], buffer: &mut [u8]) -> Measured
 pub fn compare(first: &[u8], second: &[u8]) -> Compared
     ensures { λ r. ⌜ r ≡ compared (now (first .entry)) (now (second .entry)) ⌝ }
 {
-    version_compare::text::compare(first, second)
+    compare_texts(first, second)
 }
 
 // The packed word of a small version; that a version has none is no refusal.

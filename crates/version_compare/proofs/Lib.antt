@@ -3,5 +3,5 @@ pub mod Counts
 pub mod Places
 pub mod Bytes
 pub mod Labels
-pub mod Texts
+pub mod Versions
 pub mod Plains

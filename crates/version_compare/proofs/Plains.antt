@@ -1,11 +1,9 @@
 -- Plain versions compare as the versions that they are.
 -- Assumes nothing.
 use mathlib.Core.Path.{_≡_, refl, sym, ap, _∙_}
-use mathlib.Core.Bool.{false, not}
 use mathlib.Core.List.{List, [], _∷_}
 use Prim.Native.Nat.{ℕ, zero, suc, compare}
 use lib.ListN.{take, replicate}
-use borrow.Author.Tests.{not-false}
 use Rattle.order.specs.Ordering.{also, flip}
 use Rattle.order.specs.Compare.{padded}
 use Rattle.order.specs.Answer.{nameOf}
@@ -15,19 +13,14 @@ use Rattle.order.proofs.Ordering.{also-eq}
 use Rattle.order.proofs.Padded.{padded-laws}
 use Rattle.order.proofs.Numbers.{number-laws}
 use Rattle.version_reading.specs.declared.plain.Plain.{Plain}
-use Rattle.version_reading.specs.declared.plain.PlainReading.{PlainReading}
-use Rattle.version_reading.specs.Plain.{Filled, FilledPlain, plainOf, wholeVersion}
-use Rattle.version_reading.specs.Reading.{versionOf}
+use Rattle.version_reading.specs.Plain.{Filled, FilledPlain, wholeVersion}
 use Rattle.version_reading.specs.Value.{valueOf, listed}
-use Rattle.version_reading.proofs.PlainRead.{plain-said}
-use Rattle.version_order.specs.declared.compared.Compared.{Compared}
 use Rattle.version_order.specs.Versions.{compareRelease, compareKey, comparePublic, compareValues}
 use Rattle.version_order.specs.declared.key.Key.{Key}
 use Rattle.version_order.specs.Key.{keyOf}
 use Rattle.version_compare.specs.Plain.{compareNumbers, comparePlains}
-use Rattle.version_order.specs.Compared.{answered, compared}
 use Rattle.version_compare.proofs.Steps.{undecided}
-use Rattle.version_order.proofs.Orders.{label-blind}
+use Rattle.version_order.proofs.Orders.{label-blind, unlabelled}
 
 -- zeros at a release's end make no difference
 zeros : (k : ℕ) (x : List ℕ) → padded compare 0 (replicate k 0) x ≡ padded compare 0 [] x
@@ -80,18 +73,16 @@ pub plains-compare : (v w : Plain) → FilledPlain v → FilledPlain w →
 unfolding comparePlains comparePublic compareRelease valueOf
 plains-compare v w f g = ap (λ o. also o (compareKey (keyOf (v .pre) (v .post) (v .dev)) (keyOf (w .pre) (w .post) (w .dev)))) (sym (numbers-alike v w f g))
 
+-- they have no label
+pub plains-order : (s t : List ℕ) (v w : Plain) → FilledPlain v → FilledPlain w →
+    compareValues (valueOf s (wholeVersion v)) (valueOf t (wholeVersion w)) ≡ comparePlains v w
+unfolding valueOf listed
+plains-order s t v w f g =
+    unlabelled (valueOf s (wholeVersion v)) (valueOf t (wholeVersion w)) refl refl
+    ∙ sym (plains-compare v w f g ∙ label-blind s t (wholeVersion v) (wholeVersion w))
+
 -- the ways of the functions: r is what the numbers say, a and b are the keys
 pub plains-by-key : (v w : Plain) (r q : Order) (a b : Key) → r ≡ nameOf (compareNumbers v w) → r ≡ Equal →
     a ≡ keyOf (v .pre) (v .post) (v .dev) → b ≡ keyOf (w .pre) (w .post) (w .dev) → q ≡ nameOf (compareKey a b) → q ≡ nameOf (comparePlains v w)
 unfolding comparePlains
 plains-by-key v w r q a b e f g h k = undecided r q (compareNumbers v w) _ e f (rw (← g, ← h) k)
-
--- two texts that say plain versions
-pub both-plain : (s t : List ℕ) (one other : PlainReading) (r : Order) (q : Compared) → one ≡ plainOf s → other ≡ plainOf t →
-    not (one .found) ≡ false → not (other .found) ≡ false → FilledPlain (one .plain) → FilledPlain (other .plain) →
-    r ≡ nameOf (comparePlains (one .plain) (other .plain)) → q ≡ answered r → q ≡ compared s t
-unfolding compared versionOf compareValues valueOf listed
-both-plain s t one other r q e f x y a b g h =
-    let public : comparePublic (valueOf s (wholeVersion (one .plain))) (valueOf t (wholeVersion (other .plain))) ≡ comparePlains (one .plain) (other .plain) =
-    sym (plains-compare (one .plain) (other .plain) a b ∙ label-blind s t (wholeVersion (one .plain)) (wholeVersion (other .plain))) in
-    rw (plain-said false s one e (not-false (one .found) x), plain-said false t other f (not-false (other .found) y), public, also-eq (comparePlains (one .plain) (other .plain)), ← g) h

@@ -1,6 +1,5 @@
-// The order of versions: by their keys, their labels, as fields and as texts.
+// The order of versions by their fields: keys, labels, whole versions, plain ones.
 pub mod key;
 pub mod label;
 pub mod plain;
-pub mod text;
 pub mod version;

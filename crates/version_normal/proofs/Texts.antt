@@ -24,7 +24,7 @@ use Rattle.version_parts.specs.declared.fields.MaybeNumber.the-variants.{Absent
 use Rattle.version_reading.specs.declared.segment.Segment.{Segment}
 use Rattle.version_reading.specs.declared.segment.Segment.the-variants.{Number, Text}
 use Rattle.version_reading.specs.Segment.{segmentOf}
-use Rattle.version_reading.specs.declared.text.Reading.{Reading}
+use Rattle.version_reading.specs.declared.text.VersionReading.{VersionReading}
 use Rattle.version_reading.specs.declared.text.Verdict.{Verdict}
 use Rattle.version_reading.specs.declared.text.Verdict.the-variants.{Accepted, Refused}
 use Rattle.version_reading.specs.Reading.{versionOf}
@@ -93,7 +93,7 @@ pub lower-done : (s old b : List ℕ) (at i j : ℕ) → Wrote old at (lowered (
 lower-done s old b at i j p h = rw (take-all i s h) at p
 
 -- the ways of `print_normal`: what was read of the text
-module _ (s : List ℕ) (read : Reading) (v : Verdict) (d : read ≡ versionOf s) (e : v ≡ read .verdict) where
+module _ (s : List ℕ) (read : VersionReading) (v : Verdict) (d : read ≡ versionOf s) (e : v ≡ read .verdict) where
   pub normal-refused : (buf : List ℕ) (x : Refusal) → v ≡ Refused x → NormalPrinted s buf buf (NotWritten x)
   normal-refused buf x f = record { answers = rw (← d, ← e, f); leaves = rw (← d, ← e, f) }
 

@@ -27,12 +27,11 @@ use Rattle.version_parts.specs.Places.{numberAt, markedNumber, onNumber}
 use Rattle.version_parts.specs.Head.{leadEnd, headRead, headRefused, releaseFrom, afterEpoch, headAt, headOf}
 use Rattle.version_parts.specs.Suffix.{suffixAt}
 use Rattle.version_parts.proofs.Ended.{gone, zero-there, suffix-ended}
-use Rattle.version_reading.specs.declared.plain.Plain.{Plain}
 use Rattle.version_reading.specs.declared.plain.PlainHead.{PlainHead}
 use Rattle.version_reading.specs.declared.plain.PlainReading.{PlainReading}
 use Rattle.version_reading.specs.declared.text.PatternReading.{PatternReading}
 use Rattle.version_reading.specs.Label.{labelAt}
-use Rattle.version_reading.specs.Reading.{refusedWith, fielded, accepted, starred, afterSuffix, suffixed, afterRelease, afterHead, patternAs}
+use Rattle.version_reading.specs.Reading.{refusedWith, fielded, accepted, starred, afterSuffix, suffixed, afterRelease, afterHead, patternAs, Read as ReadAs}
 use Rattle.version_reading.specs.Plain.{
   plainHead,
   noHead,
@@ -46,6 +45,7 @@ use Rattle.version_reading.specs.Plain.{
   plainSuffixed,
   plainAt,
   plainOf,
+  PlainRead,
   wholeRelease,
   wholeVersion,
 }
@@ -216,13 +216,12 @@ plain-read wildcards s = by-length (ltb 1024 (length s))
 pub plain-said : (wildcards : Bool) (s : List ℕ) (r : PlainReading) → r ≡ plainOf s → r .found ≡ true → patternAs wildcards s ≡ accepted false (wholeVersion (r .plain))
 plain-said wildcards s r e k = rw e (plain-read wildcards s (rw e at k))
 
--- the way of `read_as`, where v are the fields
-module _ (wildcards : Bool) (s : List ℕ) (r : PlainReading) (v : Version) (e : v ≡ wholeVersion (r .plain)) where
-  pub as-plain : r ≡ plainOf s → r .found ≡ true → accepted false v ≡ patternAs wildcards s
-  as-plain f k = rw e (sym (plain-said wildcards s r f k))
-
-  pub whole-few : r .plain .count ≤ 4 → v .release .len ≤ 16
-  whole-few h = rw e (omega arith)
-
-pub whole-bare : (v : Version) (plain : Plain) → v ≡ wholeVersion plain → v .local .len ≤ 16
-whole-bare v plain e = rw e (omega arith)
+-- and where v are the fields, that is what a reading by the rules promises
+pub plain-promised : (wildcards : Bool) (s : List ℕ) (r : PlainReading) (v : Version) → PlainRead (plainOf s) r → r .found ≡ true → v ≡ wholeVersion (r .plain) →
+    ReadAs (patternAs wildcards s) (accepted false v)
+plain-promised wildcards s r v read k e = record {
+  is = rw e (sym (plain-said wildcards s r (read .is) k));
+  few = rw e (omega (arith, read .few));
+  short = rw e (omega arith);
+  near = omega arith;
+}

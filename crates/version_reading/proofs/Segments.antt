@@ -10,7 +10,7 @@ use Rattle.decimal.specs.declared.parse.Number.the-variants.{Value, TooBig}
 use Rattle.decimal.specs.Parse.{numberOf, digitsOf}
 use Rattle.version_reading.specs.declared.segment.Segment.{Segment}
 use Rattle.version_reading.specs.declared.segment.Segment.the-variants.{Number as IsNumber, Text}
-use Rattle.version_reading.specs.declared.text.Reading.{Reading}
+use Rattle.version_reading.specs.declared.text.VersionReading.{VersionReading}
 use Rattle.version_reading.specs.Reading.{versionOf}
 use Rattle.version_reading.specs.Segment.{segmentOf, segmentBytes, segmentText}
 
@@ -30,7 +30,7 @@ module _ (bytes : List ℕ) (n : ℕ) (e : n ≡ digitsOf bytes) where
     segment-number v h = yes-is _ _ e f (rw (← g, h))
 
 -- the segment's bytes b, of the version that was read, and what they say
-module _ (s : List ℕ) (i : ℕ) (read : Reading) (b : List ℕ) (r : Segment)
+module _ (s : List ℕ) (i : ℕ) (read : VersionReading) (b : List ℕ) (r : Segment)
     (d : read ≡ versionOf s) (e : b ≡ segmentBytes s (read .version .local) i) (f : r ≡ segmentOf b) where
   pub text-missing : (n : ℕ) → r ≡ IsNumber n → [] ≡ segmentText s i
   unfolding segmentText

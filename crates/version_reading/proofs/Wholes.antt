@@ -31,6 +31,8 @@ use Rattle.version_reading.specs.Reading.{
   afterRelease,
   patternAs,
   versionOf,
+  Read,
+  VersionRead,
 }
 
 -- rules 8 and 9: the label l stands at `at`
@@ -86,6 +88,7 @@ pub star-ends : (s : List ℕ) (at n : ℕ) → n ≡ beginningOf (46 ∷ 42 ∷
     n ≤ length (take (length s - at) (drop at s)) → (n ≡ 0 → ⊥) → at ≤ length s → at + 2 ≤ length s
 star-ends s at n b w z h = omega (arith, begun 46 (42 ∷ []) _ n b z .1, rw (take-rest s at) at w, length-drop at s)
 
-pub version-is : (s : List ℕ) (p : PatternReading) → p ≡ patternAs false s → withoutWildcard p ≡ versionOf s
+-- a version is a pattern without a wildcard
+pub version-read : (s : List ℕ) (p : PatternReading) → Read (patternAs false s) p → VersionRead (versionOf s) (withoutWildcard p)
 unfolding versionOf
-version-is s p e = rw e
+version-read s p read = record { is = rw (read .is); few = read .few; short = read .short; near = read .near }

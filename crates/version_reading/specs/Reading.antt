@@ -25,7 +25,7 @@ use Rattle.version_reading.specs.declared.label.LabelRead.{LabelRead}
 use Rattle.version_reading.specs.declared.text.Verdict.{Verdict}
 use Rattle.version_reading.specs.declared.text.Verdict.the-variants.{Accepted, Refused}
 use Rattle.version_reading.specs.declared.text.PatternReading.{PatternReading}
-use Rattle.version_reading.specs.declared.text.Reading.{Reading}
+use Rattle.version_reading.specs.declared.text.VersionReading.{VersionReading}
 use Rattle.version_reading.specs.Label.{labelAt}
 
 -- a text or a list has at most so many bytes
@@ -92,10 +92,10 @@ patternAs wildcards s = cond (ltb longest (length s)) (refusedWith 8 longest) (a
 abbrev pub patternOf : List ℕ → PatternReading
 patternOf s = patternAs true s
 
-abbrev pub withoutWildcard : PatternReading → Reading
+abbrev pub withoutWildcard : PatternReading → VersionReading
 withoutWildcard r = record { verdict = r .verdict; version = r .version }
 
-unfoldable pub versionOf : List ℕ → Reading
+unfoldable pub versionOf : List ℕ → VersionReading
 versionOf s = withoutWildcard (patternAs false s)
 
 -- the place of a refusal
@@ -110,7 +110,7 @@ pub record Read (spec r : PatternReading) : Type 0 where
   pub short : r .version .local .len ≤ 16
   pub near : placeOf (r .verdict) ≤ longest
 
-pub record VersionRead (spec r : Reading) : Type 0 where
+pub record VersionRead (spec r : VersionReading) : Type 0 where
   pub is : r ≡ spec
   pub few : r .version .release .len ≤ 16
   pub short : r .version .local .len ≤ 16

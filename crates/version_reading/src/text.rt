@@ -29,7 +29,7 @@ pub struct PatternReading {
     pub version: Version,
 }
 
-pub struct Reading {
+pub struct VersionReading {
     pub verdict: Verdict,
     pub version: Version,
 }
@@ -124,7 +124,7 @@ fn read_rest(s: &[u8], head: Head) -> PatternReading
     }
 }
 
-// The rules alone, for a caller that has tried `read_plain` already.
+// Any text, by the rules alone: for a caller that has tried `read_plain`. `wildcards` says whether a wildcard may follow the version.
 pub fn read_by_rules(s: &[u8], wildcards: bool) -> PatternReading
     ensures { λ r. ⌜ Read (patternAs wildcards (now (s .entry))) r ⌝ }
 {
@@ -164,11 +164,11 @@ pub fn read_pattern(s: &[u8]) -> PatternReading
     read_as(s, true)
 }
 
-pub fn read_version(s: &[u8]) -> Reading
+pub fn read_version(s: &[u8]) -> VersionReading
     ensures { λ r. ⌜ VersionRead (versionOf (now (s .entry))) r ⌝ }
 {
     let read = read_as(s, false);
     let verdict = read.verdict;
     let version = read.version;
-    Reading { verdict, version }
+    VersionReading { verdict, version }
 }

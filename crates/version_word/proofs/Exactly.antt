@@ -17,7 +17,8 @@ use Rattle.version_order.specs.Compared.{answered, compared}
 use Rattle.version_word.specs.declared.packed.Word.{Word}
 use Rattle.version_word.specs.declared.packed.Worded.the-variants.{Word as IsWord, NotSmall}
 use Rattle.version_word.specs.Small.{isSmall, wordOf}
-use Rattle.version_word.specs.Worded.{wordIs, wordedIf, worded, judged, wordAnswer}
+use Rattle.version_word.specs.Beside.{wordIs}
+use Rattle.version_word.specs.Worded.{wordedIf, worded, judged, wordAnswer}
 use Rattle.version_word.proofs.Words.{word-compare}
 
 -- the text says a small version, and n is its sum

@@ -5,4 +5,6 @@ pub mod Digits
 pub mod Packs
 pub mod Smallness
 pub mod Words
+pub mod Beside
+pub mod Texts
 pub mod Exactly

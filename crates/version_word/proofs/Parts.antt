@@ -15,8 +15,8 @@ use Rattle.version_parts.specs.declared.fields.MaybeNumber.{MaybeNumber}
 use Rattle.version_parts.specs.declared.fields.MaybeNumber.the-variants.{Absent as NoPart, Is as IsPart}
 use Rattle.version_word.specs.declared.small.Fitted.{Fitted}
 use Rattle.version_word.specs.declared.small.Fitted.the-variants.{Fits, Large}
-use Rattle.version_word.specs.Small.{smallRelease, releaseWord, alone, onlySuffix}
-use Rattle.version_word.specs.Fitted.{releaseFitted, suffixFitted}
+use Rattle.version_word.specs.Small.{alone, onlySuffix}
+use Rattle.version_word.specs.Fitted.{numbersFitted, suffixFitted}
 
 -- the numbers l of an array, of which the first len count
 module _ (l : List ℕ) (len at : ℕ) where
@@ -29,41 +29,25 @@ module _ (l : List ℕ) (len at : ℕ) where
   pub number-there : at < len → getD l at 0 ≡ getD (take len l) at 0
   number-there h = sym (getD-take len l at 0 h)
 
--- the release numbers, as far as they were looked at
-module _ (l : List ℕ) (len : ℕ) where
-  pub release-long : length (map (λ k. k) l) ≡ 16 → 4 < len → Large ≡ releaseFitted (take len l)
-  unfolding smallRelease
-  release-long e h = rw (lt-leb (length (take len l)) 4 (omega (arith, length-take len l, length-unmapped ℕ l 16 e)))
+-- four release numbers, as far as they were looked at
+module _ (a b c d : ℕ) where
+  pub first-large : 65535 < a → Large ≡ numbersFitted a b c d
+  first-large h = rw (lt-leb a 65535 h)
 
-  module _ (few : len ≤ 4) (a : ℕ) (ea : a ≡ getD (take len l) 0 0) where
-    short : length (take len l) ≤ 4
-    short = omega (arith, length-take len l)
+  module _ (ha : a ≤ 65535) where
+    pub second-large : 255 < b → Large ≡ numbersFitted a b c d
+    second-large h = rw (le-leb a 65535 ha, lt-leb b 255 h)
 
-    pub first-large : 65535 < a → Large ≡ releaseFitted (take len l)
-    unfolding smallRelease
-    first-large h = rw (le-leb _ 4 short, ← ea, lt-leb a 65535 h)
+    module _ (hb : b ≤ 255) where
+      pub third-large : 255 < c → Large ≡ numbersFitted a b c d
+      third-large h = rw (le-leb a 65535 ha, le-leb b 255 hb, lt-leb c 255 h)
 
-    module _ (ha : a ≤ 65535) (b : ℕ) (eb : b ≡ getD (take len l) 1 0) where
-      pub second-large : 255 < b → Large ≡ releaseFitted (take len l)
-      unfolding smallRelease
-      second-large h = rw (le-leb _ 4 short, ← ea, ← eb, le-leb a 65535 ha, lt-leb b 255 h)
+      module _ (hc : c ≤ 255) where
+        pub fourth-large : 255 < d → Large ≡ numbersFitted a b c d
+        fourth-large h = rw (le-leb a 65535 ha, le-leb b 255 hb, le-leb c 255 hc, lt-leb d 255 h)
 
-      module _ (hb : b ≤ 255) (c : ℕ) (ec : c ≡ getD (take len l) 2 0) where
-        pub third-large : 255 < c → Large ≡ releaseFitted (take len l)
-        unfolding smallRelease
-        third-large h = rw (le-leb _ 4 short, ← ea, ← eb, ← ec, le-leb a 65535 ha, le-leb b 255 hb, lt-leb c 255 h)
-
-        module _ (hc : c ≤ 255) (d : ℕ) (ed : d ≡ getD (take len l) 3 0) where
-          pub fourth-large : 255 < d → Large ≡ releaseFitted (take len l)
-          unfolding smallRelease
-          fourth-large h =
-              rw (le-leb _ 4 short, ← ea, ← eb, ← ec, ← ed, le-leb a 65535 ha, le-leb b 255 hb, le-leb c 255 hc, lt-leb d 255 h)
-
-          pub release-fits : d ≤ 255 →
-              Fits (a * 0x1000000000000 + b * 0x10000000000 + c * 0x100000000 + d * 0x1000000) ≡ releaseFitted (take len l)
-          unfolding smallRelease releaseWord
-          release-fits h =
-              rw (le-leb _ 4 short, ← ea, ← eb, ← ec, ← ed, le-leb a 65535 ha, le-leb b 255 hb, le-leb c 255 hc, le-leb d 255 h)
+        pub numbers-fit : d ≤ 255 → Fits (a * 0x1000000000000 + b * 0x10000000000 + c * 0x100000000 + d * 0x1000000) ≡ numbersFitted a b c d
+        numbers-fit h = rw (le-leb a 65535 ha, le-leb b 255 hb, le-leb c 255 hc, le-leb d 255 h)
 
 -- a suffix's number beside two parts that are not there
 module _ (n : ℕ) (a b : MaybeNumber) (e : a ≡ NoPart) (f : b ≡ NoPart) where

@@ -1,3 +1,4 @@
 pub mod Small
 pub mod Fitted
+pub mod Beside
 pub mod Worded

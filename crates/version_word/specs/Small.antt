@@ -12,11 +12,13 @@ use Rattle.version_parts.specs.declared.fields.MaybeNumber.the-variants.{Absent
 use Rattle.version_reading.specs.Value.{LocalSegment, Value}
 use Rattle.version_order.specs.Key.{kindOf}
 
--- at most four release numbers, the first at most 65535 and the others at most 255
+-- the first number at most 65535 and the others at most 255
+abbrev pub smallNumbers : ℕ → ℕ → ℕ → ℕ → Bool
+smallNumbers first second third fourth = leb first 65535 && (leb second 255 && (leb third 255 && leb fourth 255))
+
+-- at most four release numbers, of which one that is not there counts as 0
 unfoldable pub smallRelease : List ℕ → Bool
-smallRelease r =
-    leb (length r) 4
-    && (leb (getD r 0 0) 65535 && (leb (getD r 1 0) 255 && (leb (getD r 2 0) 255 && leb (getD r 3 0) 255)))
+smallRelease r = leb (length r) 4 && smallNumbers (getD r 0 0) (getD r 1 0) (getD r 2 0) (getD r 3 0)
 
 -- the number of a suffix, where neither of two others is there
 abbrev pub alone : ℕ → MaybeNumber → MaybeNumber → Option ℕ
@@ -49,13 +51,16 @@ abbrev pub orZero : Option ℕ → ℕ
 orZero none = 0
 orZero (some n) = n
 
--- first·2^48 + second·2^40 + third·2^32 + fourth·2^24, 0 where there is none
-unfoldable pub releaseWord : List ℕ → ℕ
-releaseWord r = getD r 0 0 * 2 ^ 48 + getD r 1 0 * 2 ^ 40 + getD r 2 0 * 2 ^ 32 + getD r 3 0 * 2 ^ 24
+-- first·2^48 + second·2^40 + third·2^32 + fourth·2^24
+abbrev pub numbersWord : ℕ → ℕ → ℕ → ℕ → ℕ
+numbersWord first second third fourth = first * 2 ^ 48 + second * 2 ^ 40 + third * 2 ^ 32 + fourth * 2 ^ 24
 
--- and kind·2^21 + suffix number
+unfoldable pub releaseWord : List ℕ → ℕ
+releaseWord r = numbersWord (getD r 0 0) (getD r 1 0) (getD r 2 0) (getD r 3 0)
+
+-- to the release's part, kind·2^21 + suffix number
+abbrev pub withSuffix : ℕ → Pre → MaybeNumber → MaybeNumber → ℕ
+withSuffix release pre post dev = release + kindOf pre post dev * 2 ^ 21 + orZero (onlySuffix pre post dev)
+
 unfoldable pub wordOf : Value → ℕ
-wordOf v =
-    releaseWord (v .release)
-    + kindOf (v .pre) (v .post) (v .dev) * 2 ^ 21
-    + orZero (onlySuffix (v .pre) (v .post) (v .dev))
+wordOf v = withSuffix (releaseWord (v .release)) (v .pre) (v .post) (v .dev)

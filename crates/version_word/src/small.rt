@@ -6,7 +6,7 @@ ghost use mathlib.Core.Path.{_≡_};
 ghost use Prim.Native.Nat.{_-_, _^_};
 ghost use lib.ListN.{getD, take};
 ghost use Rattle.version_word.specs.Small.{alone, onlySuffix};
-ghost use Rattle.version_word.specs.Fitted.{FittedTo, releaseFitted, suffixFitted};
+ghost use Rattle.version_word.specs.Fitted.{FittedTo, numbersFitted, suffixFitted};
 
 pub enum Fitted {
     Fits(u64),
@@ -14,7 +14,7 @@ pub enum Fitted {
 }
 
 // The release number at a place, and 0 where there is none.
-fn release_number(release: Release, at: usize) -> u64
+pub(crate) fn release_number(release: Release, at: usize) -> u64
     ensures { λ r. ⌜ r ≡ getD (take (release .len) (release .numbers)) at 0 ⌝ }
 {
     let numbers = release.numbers;
@@ -28,25 +28,18 @@ fn release_number(release: Release, at: usize) -> u64
     numbers[at]
 }
 
-pub(crate) fn release_word(release: Release) -> Fitted
-    ensures { λ r. ⌜ FittedTo (2 ^ 64 - 2 ^ 24) (releaseFitted (take (release .len) (release .numbers))) r ⌝ }
+pub(crate) fn numbers_word(first: u64, second: u64, third: u64, fourth: u64) -> Fitted
+    ensures { λ r. ⌜ FittedTo (2 ^ 64 - 2 ^ 24) (numbersFitted first second third fourth) r ⌝ }
 {
-    if 4 < release.len {
-        return Fitted::Large;
-    }
-    let first = release_number(release, 0);
     if 65535 < first {
         return Fitted::Large;
     }
-    let second = release_number(release, 1);
     if 255 < second {
         return Fitted::Large;
     }
-    let third = release_number(release, 2);
     if 255 < third {
         return Fitted::Large;
     }
-    let fourth = release_number(release, 3);
     if 255 < fourth {
         return Fitted::Large;
     }

@@ -3,7 +3,7 @@
 use borrow.Author.Needs.{needs}
 use Rattle.version_order.specs.Versions.{comparePublic}
 use Rattle.version_compare.proofs.Steps.{decided}
-use Rattle.version_compare.proofs.Texts.{keys-compared}
+use Rattle.version_compare.proofs.Versions.{keys-compared}
 use Rattle.version_compare.proofs.version.compare_public.Statement.{statement}
 use Rattle.version_compare.proofs.version.compare_public.Tie as tie
 

@@ -1,7 +1,7 @@
 -- `version_compare::version::compare_versions` meets its contract: the labels decide where nothing else does.
 -- Assumes nothing.
 use borrow.Author.Needs.{needs}
-use Rattle.version_compare.proofs.Texts.{versions-differ, versions-agree}
+use Rattle.version_compare.proofs.Versions.{versions-differ, versions-agree}
 use Rattle.version_compare.proofs.version.compare_versions.Statement.{statement}
 use Rattle.version_compare.proofs.version.compare_versions.Tie as tie
 

@@ -1,7 +1,7 @@
 -- `version_reading::text::read_as` meets its contract.
 -- Assumes nothing.
 use borrow.Author.Needs.{needs}
-use Rattle.version_reading.proofs.PlainRead.{as-plain, whole-few, whole-bare}
+use Rattle.version_reading.proofs.PlainRead.{plain-promised}
 use Rattle.version_reading.proofs.text.read_as.Statement.{statement}
 use Rattle.version_reading.proofs.text.read_as.Tie as tie
 
@@ -11,6 +11,6 @@ read-as-spec =
     (tie.spec
     (λ c κs. search needs)
     (λ c κs. search needs)
-    (λ c. record { is = search as-plain; few = search whole-few; short = search whole-bare; near = search needs })
+    (λ c. search plain-promised)
     (λ c κs. search needs)
     (λ c. search needs))

@@ -1,7 +1,7 @@
 -- `version_word::text::word` meets its contract: one law for each way out.
 -- Assumes nothing.
 use borrow.Author.Needs.{needs}
-use Rattle.version_word.proofs.Packs.{text-refused, text-read, text-short}
+use Rattle.version_word.proofs.Texts.{plain-answer, refused-answer, read-answer}
 use Rattle.version_word.proofs.text.word.Statement.{statement}
 use Rattle.version_word.proofs.text.word.Tie as tie
 
@@ -12,10 +12,11 @@ word-spec =
     (λ c κs. search needs)
     (λ c κs. search needs)
     (λ c κs. search needs)
-    (λ c. search text-short)
+    (λ c. search plain-answer)
     (λ c κs. search needs)
     (λ c. search needs)
-    (λ c. search text-refused)
+    (λ c. search refused-answer)
     (λ c. search needs)
     (λ c κs. search needs)
-    (λ c. search text-read))
+    (λ c κs. search needs)
+    (λ c. search read-answer))

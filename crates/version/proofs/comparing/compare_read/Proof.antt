@@ -1,9 +1,9 @@
--- `version_compare::text::compare_read` meets its contract: one law for each way out.
+-- `version::comparing::compare_read` meets its contract: one law for each way out.
 -- Assumes nothing.
 use borrow.Author.Needs.{needs}
-use Rattle.version_compare.proofs.Texts.{first-refused, second-refused, both-read}
-use Rattle.version_compare.proofs.text.compare_read.Statement.{statement}
-use Rattle.version_compare.proofs.text.compare_read.Tie as tie
+use Rattle.version.proofs.Compares.{first-refused, second-refused, both-accepted}
+use Rattle.version.proofs.comparing.compare_read.Statement.{statement}
+use Rattle.version.proofs.comparing.compare_read.Tie as tie
 
 pub compare-read-spec : {M : Type 1} → statement M
 compare-read-spec =
@@ -19,4 +19,4 @@ compare-read-spec =
     (λ c. search needs)
     (λ c κs. search needs)
     (λ c κs. search needs)
-    (λ c. search both-read))
+    (λ c. search both-accepted))

@@ -3,21 +3,14 @@
 use mathlib.Core.Path.{_≡_}
 use mathlib.Core.List.{List, []}
 use Prim.Native.Nat.{ℕ}
-use Rattle.answers.specs.declared.Refusal.{Refusal}
 use Rattle.order.specs.Answer.{nameOf}
 use Rattle.order.specs.declared.Order.{Order}
 use Rattle.order.specs.declared.Order.the-variants.{Equal}
 use Rattle.version_parts.specs.declared.fields.Version.{Version}
-use Rattle.version_reading.specs.declared.text.Reading.{Reading}
-use Rattle.version_reading.specs.declared.text.Verdict.the-variants.{Accepted, Refused}
-use Rattle.version_reading.specs.Reading.{versionOf}
 use Rattle.version_reading.specs.Value.{valueOf}
 use Rattle.version_order.specs.declared.key.Key.{Key}
-use Rattle.version_order.specs.declared.compared.Compared.{Compared}
-use Rattle.version_order.specs.declared.compared.Compared.the-variants.{First, Second}
 use Rattle.version_order.specs.Key.{keyOf}
 use Rattle.version_order.specs.Versions.{compareRelease, compareKey, comparePublic, compareValues}
-use Rattle.version_order.specs.Compared.{answered, compared}
 use Rattle.version_order.proofs.Orders.{label-blind}
 use Rattle.version_compare.proofs.Steps.{Differs, decided, undecided}
 use Rattle.version_compare.proofs.Labels.{labels}
@@ -42,19 +35,3 @@ module _ (s t : List ℕ) (v w : Version) (r : Order) (e : r ≡ nameOf (compare
       q ≡ nameOf (compareValues (valueOf s v) (valueOf t w))
   unfolding compareValues
   versions-agree q f g = undecided r q (comparePublic (valueOf s v) (valueOf t w)) _ public f g
-
--- two texts: what was read of them, and the verdicts
-module _ (s t : List ℕ) (one : Reading) (d : one ≡ versionOf s) where
-  pub first-refused : (x : Refusal) → one .verdict ≡ Refused x → First x ≡ compared s t
-  unfolding compared
-  first-refused x e = rw (← d, e)
-
-  module _ (other : Reading) (f : other ≡ versionOf t) (e : one .verdict ≡ Accepted) where
-    pub second-refused : (x : Refusal) → other .verdict ≡ Refused x → Second x ≡ compared s t
-    unfolding compared
-    second-refused x g = rw (← d, ← f, e, g)
-
-    pub both-read : (r : Order) (q : Compared) → other .verdict ≡ Accepted →
-        r ≡ nameOf (compareValues (valueOf s (one .version)) (valueOf t (other .version))) → q ≡ answered r → q ≡ compared s t
-    unfolding compared
-    both-read r q g h k = rw (← d, ← f, e, g, ← h) k
