@@ -14,7 +14,6 @@ use Rattle.version_parts.specs.declared.fields.Version.{Version}
 use Rattle.version_reading.specs.declared.text.Verdict.{Verdict}
 use Rattle.version_reading.specs.declared.text.Verdict.the-variants.{Accepted, Refused}
 use Rattle.version_reading.specs.Reading.{longest, patternOf}
-use Rattle.version_reading.specs.Value.{valueOf}
 use Rattle.version_reading.proofs.Values.{release-count, same-value, no-label}
 use Rattle.version.proofs.Exactly.{row-of-refusal}
 use Rattle.version.proofs.Numbers.{refusal-numbers}

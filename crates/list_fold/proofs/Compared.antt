@@ -1,7 +1,7 @@
 -- Rows compare, number by number, as their places do.
 -- Assumes nothing.
 use mathlib.Core.Path.{_≡_, refl, sym, _∙_, ap}
-use mathlib.Core.List.{List, [], _∷_}
+use mathlib.Core.List.{[], _∷_}
 use Prim.Native.Nat.{ℕ, _≤_, compare}
 use lib.ListN.{length}
 use Rattle.order.specs.Ordering.{also, isLe}
@@ -21,7 +21,7 @@ version-compare : (v w : Value) (x y : ℕ) → length (v .release) ≤ 16 → l
     → padded compare 0 (versionRow x v) (versionRow y w) ≡ also (comparePublic v w) (compare x y)
 version-compare v w x y h k =
     padded-append compare 0 (rowOf v) (rowOf w) (x ∷ []) (y ∷ []) (row-long v h ∙ sym (row-long w k))
-    ∙ rw (versions-compare v h w k, also-eq (compare x y))
+    ∙ rw (versions-compare v w h k, also-eq (compare x y))
 
 cut-compare : (p q : Place) → Short p → Short q → padded compare 0 (keyRow p) (keyRow q) ≡ compareCuts comparePublic p q
 unfolding keyRow

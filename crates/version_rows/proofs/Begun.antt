@@ -1,9 +1,9 @@
 -- A row begins with another exactly if its version matches the other's prefix.
 -- Assumes nothing.
-use mathlib.Core.Path.{_≡_, sym, _∙_, ap}
+use mathlib.Core.Path.{_≡_, _∙_, ap}
 use mathlib.Core.Bool.{Bool, _&&_}
 use mathlib.Core.List.{List, _++_}
-use Prim.Native.Nat.{ℕ, suc, _+_, _-_, _≤_, min}
+use Prim.Native.Nat.{ℕ, _+_, _-_, _≤_, min}
 use native.Mathlib.Numerals.{add-one}
 use native.Mathlib.Omega.{arith}
 use lib.Dec.{eqb}
@@ -13,7 +13,7 @@ use Rattle.version_reading.specs.Value.{Value}
 use Rattle.version_order.specs.Versions.{key}
 use Rattle.version_prefix.specs.Prefix.{begins, prefixMatches, cutTo, shorter}
 use Rattle.version_prefix.proofs.Beginnings.{begins-continued, begins-front}
-use Rattle.version_rows.specs.Row.{keyNumbers, sixteen, rowOf, rowBegins}
+use Rattle.version_rows.specs.Row.{keyNumbers, sixteen, rowOf, RowOf, rowBegins}
 use Rattle.version_rows.proofs.Compared.{sixteen-long}
 
 -- the way of `row_begins`
@@ -46,3 +46,11 @@ module _ (v w : Value) (h : length (v .release) ≤ 16) (k : length (w .release)
   -- all but its last number
   pub rows-match-shorter : rowBegins (length (v .release) - 1) (rowOf v) (rowOf w) ≡ prefixMatches (shorter v) w
   rows-match-shorter = rows-begin (length (v .release) - 1) (omega arith)
+
+-- the same of rows that were made, `count` being how many release numbers v has
+module _ (v w : Value) (a b : List ℕ) (p : RowOf v a) (q : RowOf w b) (count : ℕ) (all : count ≡ length (v .release)) where
+  pub made-match : rowBegins count a b ≡ prefixMatches v w
+  made-match = rw (p .is, q .is, all) (rows-match v w (p .few) (q .few))
+
+  pub made-match-shorter : rowBegins (count - 1) a b ≡ prefixMatches (shorter v) w
+  made-match-shorter = rw (p .is, q .is, all) (rows-match-shorter v w (p .few) (q .few))

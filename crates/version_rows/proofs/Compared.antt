@@ -1,7 +1,7 @@
 -- Rows compare, number by number, as their versions do.
 -- Assumes nothing.
 use mathlib.Core.Path.{_≡_, refl, sym, _∙_}
-use mathlib.Core.List.{List, [], _∷_, _++_}
+use mathlib.Core.List.{List}
 use Prim.Native.Nat.{ℕ, _-_, _≤_, compare}
 use native.Mathlib.Omega.{arith}
 use lib.ListN.{length, length-append, replicate, length-replicate}
@@ -17,7 +17,7 @@ use Rattle.version_reading.specs.Value.{Value}
 use Rattle.version_order.specs.declared.key.Key.{Key}
 use Rattle.version_order.specs.Key.{postOption}
 use Rattle.version_order.specs.Versions.{compareRelease, compareKey, comparePublic, key}
-use Rattle.version_rows.specs.Row.{postMark, postNumber, keyNumbers, sixteen, rowOf}
+use Rattle.version_rows.specs.Row.{postMark, postNumber, keyNumbers, sixteen, rowOf, RowOf}
 
 sixteen-compare : (a b : List ℕ) → padded compare 0 (sixteen a) (sixteen b) ≡ padded compare 0 a b
 sixteen-compare a b =
@@ -39,18 +39,21 @@ key-compare : (k l : Key) → padded compare 0 (keyNumbers k) (keyNumbers l) ≡
 unfolding compareKey
 key-compare k l = simp (post-compare, also-assoc, also-eq)
 
-module _ (v : Value) (h : length (v .release) ≤ 16) where
-  pub row-long : length (rowOf v) ≡ 22
-  unfolding rowOf
-  row-long = omega (arith, length-append (sixteen (v .release)) (keyNumbers (key v)), sixteen-long (v .release) h)
+pub row-long : (v : Value) → length (v .release) ≤ 16 → length (rowOf v) ≡ 22
+unfolding rowOf
+row-long v h = omega (arith, length-append (sixteen (v .release)) (keyNumbers (key v)), sixteen-long (v .release) h)
 
-  pub rows-compare : (w : Value) → length (w .release) ≤ 16 → padded compare 0 (rowOf v) (rowOf w) ≡ comparePublic v w
-  unfolding rowOf comparePublic compareRelease
-  rows-compare w k =
-      rw (
-        padded-append compare 0 (sixteen (v .release)) (sixteen (w .release)) (keyNumbers (key v)) (keyNumbers (key w))
-            (sixteen-long (v .release) h ∙ sym (sixteen-long (w .release) k)),
-        sixteen-compare (v .release) (w .release),
-        key-compare (key v) (key w),
-      )
-      (sym (also-assoc (compare (v .epoch) (w .epoch)) (padded compare 0 (v .release) (w .release)) (compareKey (key v) (key w))))
+pub rows-compare : (v w : Value) → length (v .release) ≤ 16 → length (w .release) ≤ 16 → padded compare 0 (rowOf v) (rowOf w) ≡ comparePublic v w
+unfolding rowOf comparePublic compareRelease
+rows-compare v w h k =
+    rw (
+      padded-append compare 0 (sixteen (v .release)) (sixteen (w .release)) (keyNumbers (key v)) (keyNumbers (key w))
+          (sixteen-long (v .release) h ∙ sym (sixteen-long (w .release) k)),
+      sixteen-compare (v .release) (w .release),
+      key-compare (key v) (key w),
+    )
+    (sym (also-assoc (compare (v .epoch) (w .epoch)) (padded compare 0 (v .release) (w .release)) (compareKey (key v) (key w))))
+
+-- the same of rows that were made
+pub made-compare : (v w : Value) (a b : List ℕ) → RowOf v a → RowOf w b → padded compare 0 a b ≡ comparePublic v w
+made-compare v w a b p q = rw (p .is, q .is) (rows-compare v w (p .few) (q .few))

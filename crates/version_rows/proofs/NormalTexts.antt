@@ -28,7 +28,7 @@ use Rattle.version_reading.proofs.Values.{same-value, no-label}
 use Rattle.chars.specs.Same.{sameBytes}
 use Rattle.version_rows.specs.declared.normal.NormalReading.{NormalReading}
 use Rattle.version_rows.specs.Row.{RowOf}
-use Rattle.version_rows.specs.Normal.{normalValue, isThere, valueSaid, NormalRead, NormalRow}
+use Rattle.version_rows.specs.Normal.{normalValue, isThere, NormalRead, NormalRow}
 use Rattle.version_rows.specs.NormalPlain.{NormalPlainRead}
 
 -- an accepted text without a label: its normal text has at most 427 bytes

@@ -1,11 +1,10 @@
 -- The ways of the functions that read a text into a row, and what is known of such a row.
 -- Assumes nothing.
 use mathlib.Core.Path.{_≡_, refl, sym, _∙_, ap}
-use mathlib.Core.Bool.{Bool, true, false, not}
+use mathlib.Core.Bool.{Bool, true, false}
 use mathlib.Core.List.{List, []}
 use Prim.Native.Nat.{ℕ, _≤_}
 use native.Mathlib.Omega.{arith}
-use lib.Dec.{eqb}
 use lib.ListN.{length}
 use Rattle.answers.specs.declared.Refusal.{Refusal}
 use Rattle.version_reading.specs.declared.plain.PlainReading.{PlainReading}
@@ -13,13 +12,13 @@ use Rattle.version_reading.specs.declared.text.Verdict.{Verdict}
 use Rattle.version_reading.specs.declared.text.Verdict.the-variants.{Accepted, Refused}
 use Rattle.version_reading.specs.declared.text.PatternReading.{PatternReading}
 use Rattle.version_reading.specs.Plain.{plainOf, wholeVersion}
-use Rattle.version_reading.specs.Reading.{longest, placeOf, patternAs, patternOf, versionOf, Read}
+use Rattle.version_reading.specs.Reading.{patternAs, patternOf, versionOf, Read}
 use Rattle.version_reading.specs.Value.{Value, valueOf, valueIn}
 use Rattle.version_reading.proofs.PlainRead.{plain-said}
 use Rattle.version_reading.proofs.Values.{release-count}
 use Rattle.version_roundtrip.proofs.Read.{pattern-shape, release-shape}
 use Rattle.version_rows.specs.declared.read.PatternRow.{PatternRow}
-use Rattle.version_rows.specs.Row.{rowOf, RowOf}
+use Rattle.version_rows.specs.Row.{RowOf}
 use Rattle.version_rows.specs.Read.{rowBy, RowRead, patternRow, PatternRowRead}
 use Rattle.version_rows.proofs.Labels.{row-blind}
 

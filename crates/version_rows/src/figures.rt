@@ -52,7 +52,7 @@ fn more_figures(s: &[u8], first: u64, at: usize) -> PartAt
     }
 }
 
-// A zero stands alone.
+// The number that stands at a place. A zero stands alone.
 pub(crate) fn figures_at(s: &[u8], at: usize) -> PartAt
     requires { ⌜ at ≤ length (now s) ⌝ }
     ensures { λ r. ⌜ PartRead (now (s .entry)) (drop at (now (s .entry))) [] r ⌝ }

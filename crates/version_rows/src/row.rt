@@ -22,6 +22,7 @@ ghost use Rattle.version_reading.specs.Plain.{FilledPlain, wholeVersion};
 ghost use Rattle.version_reading.specs.Value.{valueOf};
 ghost use Rattle.version_rows.specs.Row.{postMark, postNumber, keyNumbers, RowOf, rowBegins};
 
+// 1 where there is a post, so that a missing one is below post 0.
 fn post_mark(post: MaybeNumber) -> u64
     ensures { λ r. ⌜ r ≡ postMark post ⌝ }
 {
@@ -40,7 +41,7 @@ fn post_number(post: MaybeNumber) -> u64
     }
 }
 
-// The epoch, four release numbers, zeros for the others, and the key.
+// Leaves the epoch, four release numbers, zeros for the others, and the key.
 fn put_four(
     row: &mut [u64; 22],
     epoch: u64,
@@ -66,7 +67,7 @@ fn put_four(
     row[21] = key.dev;
 }
 
-// The release numbers that count, from the second place on.
+// Stores the release numbers that count, after the epoch.
 fn put_release(row: &mut [u64], release: Release)
     requires { ⌜ length (now row) ≡ 22 ⌝ }
     ensures { λ _. ⌜ now (row .exit) ≡ paste (now (row .entry)) 1 (release .numbers) (min (release .len) 16) ⌝ }
