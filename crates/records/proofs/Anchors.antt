@@ -3,6 +3,7 @@
 use mathlib.Core.Path.{_≡_, refl}
 use mathlib.Core.List.{List, [], _∷_, _++_, map}
 use Prim.Native.Nat.{ℕ}
+use lib.ListN.{drop}
 use Rattle.chars.specs.Text.{ascii}
 use Rattle.records.specs.declared.record.RecordAt.the-variants.{Found, Cut, Nothing}
 use Rattle.records.specs.Record.{twoBytes, recordText, recordAt, bodyOf}
@@ -38,7 +39,7 @@ abbrev long : List ℕ
 long = 0x02 ∷ 0x01 ∷ 0x22 ∷ 0x80 ∷ 0x00 ∷ 0x00 ∷ []
 
 -- without its last byte, within its head, at the last byte of all, and with a length that counts on more
-pub records-cut : recordAt (0x02 ∷ 0x00 ∷ 0x01 ∷ 0x00 ∷ 0x02 ∷ []) 0 ∷ recordAt (0x00 ∷ 0x00 ∷ 0x05 ∷ []) 0 ∷ recordAt three 16 ∷ recordAt long 0 ∷ [] ≡
+pub records-cut : map (λ s. recordAt s 0) ((0x02 ∷ 0x00 ∷ 0x01 ∷ 0x00 ∷ 0x02 ∷ []) ∷ (0x00 ∷ 0x00 ∷ 0x05 ∷ []) ∷ drop 16 three ∷ long ∷ []) ≡
     Cut ∷ Cut ∷ Cut ∷ Cut ∷ []
 unfolding recordAt recordText twoBytes
 records-cut = refl

@@ -30,11 +30,11 @@ module _ (s : List ℕ) where
   one-byte i j e h = rw (e, add-one, drop-cons s i 0)
 
   module _ (at : ℕ) where
-    record FoundAt (kind start next : ℕ) : Type 0 where
-      kind-is : kind ≡ twoAt s (at + 2)
-      start-is : start ≡ at + 4
-      next-is : next ≡ at + 4 + twoAt s at
-      within : at + 4 + twoAt s at ≤ length s
+    pub record FoundAt (kind start next : ℕ) : Type 0 where
+      pub kind-is : kind ≡ twoAt s (at + 2)
+      pub start-is : start ≡ at + 4
+      pub next-is : next ≡ at + 4 + twoAt s at
+      pub within : at + 4 + twoAt s at ≤ length s
 
     -- what each answer says of the place
     abbrev Says : RecordAt → Type 0
@@ -51,6 +51,9 @@ module _ (s : List ℕ) where
         go true cut e f = leb-true _ _ e
         go false true e f = leb-false _ _ e
         go false false e f = record { kind-is = refl; start-is = refl; next-is = refl; within = ltb-false _ _ f }
+
+    pub found-at : (kind start next : ℕ) → recordAt s at ≡ Found kind start next → FoundAt kind start next
+    found-at kind start next e = rw e at record-says
 
     pub nothing-exactly : (recordAt s at ≡ Nothing) ↔ (length s ≤ at)
     nothing-exactly = (λ e. rw e at record-says, λ h. sym (record-past s at h))
@@ -72,9 +75,10 @@ module _ (s : List ℕ) where
 
       four-stand : at + 4 ≤ length s → drop at s ≡ (twoBytes (twoAt s at) ++ twoBytes (twoAt s (at + 2))) ++ drop (at + 4) s
       four-stand h =
-          rw (two-stand at, two-stand (at + 2))
-          (one-byte at (at + 1) refl (omega arith)
-          ∙ rw (one-byte (at + 1) (at + 2) (omega arith) (omega arith), one-byte (at + 2) (at + 2 + 1) refl (omega arith), one-byte (at + 2 + 1) (at + 4) (omega arith) (omega arith)))
+          let second = one-byte (at + 1) (at + 2) (omega arith) (omega arith) in
+          let third = one-byte (at + 2) (at + 2 + 1) refl (omega arith) in
+          let fourth = one-byte (at + 2 + 1) (at + 4) (omega arith) (omega arith) in
+          rw (two-stand at, two-stand (at + 2)) (one-byte at (at + 1) refl (omega arith) ∙ rw (second, third, fourth))
 
       body-stands : (len : ℕ) → at + 4 + len ≤ length s →
           (length (bodyOf s (at + 4) (at + 4 + len)) ≡ len) × (drop (at + 4) s ≡ bodyOf s (at + 4) (at + 4 + len) ++ drop (at + 4 + len) s)
@@ -87,7 +91,7 @@ module _ (s : List ℕ) where
       pub record-stands : (kind start next : ℕ) → recordAt s at ≡ Found kind start next → drop at s ≡ recordText kind (bodyOf s start next) ++ drop next s
       unfolding recordText
       record-stands kind start next e =
-          let f : FoundAt kind start next = rw e at record-says in
+          let f = found-at kind start next e in
           let b = body-stands (twoAt s at) (f .within) in
           let head = headText (twoAt s at) (twoAt s (at + 2)) in
           rw (f .kind-is, f .start-is, f .next-is, b .0)

@@ -40,7 +40,7 @@ fn put_body(buf: &mut [u8], at: usize, end: End) -> usize
     }
 }
 
-// At a place so far on that the next might not be said in 64 bits, a first run over no buffer tells the body's length.
+// Above place 4294967296 the next place might not fit 64 bits: there a first run over no buffer tells the body's length.
 fn put_far_end(buf: &mut [u8], at: usize, kind: usize, end: End) -> usize
     ensures { λ r. ⌜ Put 1049329 (now (buf .entry)) at (recordText kind (endText end)) (now (buf .exit)) r ⌝ }
 {
