@@ -14,7 +14,7 @@ use Rattle.version_reading.specs.declared.text.Verdict.the-variants.{Accepted, 
 use Rattle.version_reading.specs.Plain.{plainOf, PlainRead, wholeVersion}
 use Rattle.version_reading.specs.Reading.{accepted, patternAs, versionOf, Read}
 use Rattle.version_reading.specs.Value.{valueOf}
-use Rattle.version_reading.proofs.Wholes as wholes
+use Rattle.version_reading.proofs.Wholes.{version-read}
 use Rattle.version_reading.proofs.PlainRead.{plain-promised}
 use Rattle.version_word.specs.declared.packed.Word.{Word}
 use Rattle.version_word.specs.Beside.{wordIs, wordBeside, plainWord}
@@ -24,11 +24,11 @@ use Rattle.version.specs.Reading.{TextRead}
 
 -- the parts of what is read, by the rules
 module _ {s : List ℕ} {r : Reading} (d : TextRead s r) where
-  pub verdict-read : r .verdict ≡ versionOf s .verdict
-  verdict-read = ap (λ (v : VersionReading). v .verdict) (d .fields .is)
+  pub verdict-is : r .verdict ≡ versionOf s .verdict
+  verdict-is = ap (λ (v : VersionReading). v .verdict) (d .fields .is)
 
-  pub version-read : r .version ≡ versionOf s .version
-  version-read = ap (λ (v : VersionReading). v .version) (d .fields .is)
+  pub version-is : r .version ≡ versionOf s .version
+  version-is = ap (λ (v : VersionReading). v .version) (d .fields .is)
 
 -- the ways of `read_from`
 abbrev reading : Verdict → Version → Word → Reading
@@ -37,14 +37,14 @@ reading verdict version word = record { verdict = verdict; version = version; wo
 pub read-quickly : (s : List ℕ) (q : PlainReading) (v : Version) (w : Word) → PlainRead (plainOf s) q → q .found ≡ true →
     v ≡ wholeVersion (q .plain) → w ≡ plainWord (q .plain) → TextRead s (reading Accepted v w)
 read-quickly s q v w p f e h = record {
-  fields = wholes.version-read s (accepted false v) (plain-promised false s q v p f e);
+  fields = version-read s (accepted false v) (plain-promised false s q v p f e);
   word = plain-in s q w (p .is) f (p .filled) h;
 }
 
 module _ (s : List ℕ) (read : PatternReading) (p : Read (patternAs false s) read) where
   pub read-refused : (x : Refusal) → read .verdict ≡ Refused x → TextRead s (reading (read .verdict) (read .version) (wordIs 0))
-  read-refused x e = record { fields = wholes.version-read s read p; word = refused-in s read (p .is) x e }
+  read-refused x e = record { fields = version-read s read p; word = refused-in s read (p .is) x e }
 
   pub read-accepted : (w : Word) → read .verdict ≡ Accepted → w ≡ wordBeside (valueOf [] (read .version)) →
       TextRead s (reading (read .verdict) (read .version) w)
-  read-accepted w e h = record { fields = wholes.version-read s read p; word = read-in s read (p .is) w e h }
+  read-accepted w e h = record { fields = version-read s read p; word = read-in s read (p .is) w e h }

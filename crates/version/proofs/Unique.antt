@@ -9,10 +9,10 @@ use Rattle.version_reading.specs.Reading.{Read}
 use Rattle.version_normal.specs.Normal.{NormalPrinted}
 use Rattle.version.specs.declared.reading.Reading.{Reading}
 use Rattle.version.specs.Reading.{TextRead}
-use Rattle.version.proofs.Readings.{verdict-read, version-read}
+use Rattle.version.proofs.Readings.{verdict-is, version-is}
 
 pub one-reading : {s : List ℕ} {r q : Reading} → TextRead s r → TextRead s q → r ≡ q
-one-reading p q = rw (verdict-read p, version-read p, p .word) (rw (verdict-read q, version-read q, q .word) refl)
+one-reading p q = rw (verdict-is p, version-is p, p .word) (rw (verdict-is q, version-is q, q .word) refl)
 
 pub one-pattern : {spec r q : PatternReading} → Read spec r → Read spec q → r ≡ q
 one-pattern p q = p .is ∙ sym (q .is)

@@ -37,10 +37,7 @@ fn compare_plain(v: Plain, w: Plain) -> Order
 {
     let one = word_of_plain(v);
     let other = word_of_plain(w);
-    if one.0 == 0 {
-        return compare_plains(v, w);
-    }
-    if other.0 == 0 {
+    if one.0 == 0 || other.0 == 0 {
         return compare_plains(v, w);
     }
     compare_number(one.0, other.0)
@@ -55,10 +52,7 @@ fn compare_accepted(first: &[u8], one: Reading, second: &[u8], other: Reading) -
     let w = other.version;
     let m = one.word;
     let n = other.word;
-    if m.0 == 0 {
-        return compare_versions(first, v, second, w);
-    }
-    if n.0 == 0 {
+    if m.0 == 0 || n.0 == 0 {
         return compare_versions(first, v, second, w);
     }
     compare_number(m.0, n.0)
@@ -88,13 +82,10 @@ pub(crate) fn compare_texts(first: &[u8], second: &[u8]) -> Compared
 {
     let one = read_plain(first);
     let other = read_plain(second);
-    if !one.found {
-        return compare_read(first, one, second, other);
+    if one.found && other.found {
+        let v = one.plain;
+        let w = other.plain;
+        return answer(compare_plain(v, w));
     }
-    if !other.found {
-        return compare_read(first, one, second, other);
-    }
-    let v = one.plain;
-    let w = other.plain;
-    answer(compare_plain(v, w))
+    compare_read(first, one, second, other)
 }

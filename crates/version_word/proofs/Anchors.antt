@@ -11,6 +11,7 @@ use Rattle.version_parts.specs.declared.fields.MaybeNumber.{MaybeNumber}
 use Rattle.version_parts.specs.declared.fields.MaybeNumber.the-variants.{Absent as NoPart, Is as IsPart}
 use Rattle.version_reading.specs.Value.{LocalSegment, text, Value}
 use Rattle.version_word.specs.Small.{smallRelease, isSmall, releaseWord, wordOf}
+use Rattle.version_word.specs.Beside.{wordIs, wordBeside}
 
 abbrev version : List ℕ → MaybeNumber → Value
 version release post = record { epoch = 0; release = release; pre = NoPre; post = post; dev = NoPart; label = [] }
@@ -22,6 +23,10 @@ one pre dev label = record { epoch = 0; release = 1 ∷ []; pre = pre; post = No
 pub three-numbers : wordOf (version (1 ∷ 2 ∷ 3 ∷ []) NoPart) ≡ 0x0001020300A00000
 unfolding releaseWord wordOf
 three-numbers = refl
+
+pub three-beside : wordBeside (version (1 ∷ 2 ∷ 3 ∷ []) NoPart) ≡ wordIs 0x0001020300A00000
+unfolding smallRelease isSmall releaseWord wordOf wordBeside
+three-beside = refl
 
 pub greatest-word : wordOf (version (65535 ∷ 255 ∷ 255 ∷ 255 ∷ []) (IsPart 2097151)) ≡ 0xFFFFFFFFFFDFFFFF
 unfolding releaseWord wordOf
@@ -55,3 +60,7 @@ two-suffixes = refl
 pub labelled : isSmall (one NoPre NoPart (text (ascii "a") ∷ [])) ≡ false
 unfolding smallRelease isSmall
 labelled = refl
+
+pub none-beside : wordBeside (one NoPre NoPart (text (ascii "a") ∷ [])) ≡ wordIs 0
+unfolding smallRelease isSmall wordBeside
+none-beside = refl

@@ -1,7 +1,7 @@
 -- The word beside a version's fields: 0 exactly where the version is not small. Where two versions have one, the words decide as the versions do.
 -- Assumes nothing.
 use mathlib.Core.Path.{_≡_, refl, sym, _∙_, ap}
-use mathlib.Core.Bool.{Bool, true, false, _&&_}
+use mathlib.Core.Bool.{Bool, true, false, and-true}
 use mathlib.Core.List.{List, [], _∷_}
 use Prim.Native.Nat.{ℕ, zero, suc, _≤_, compare, min}
 use native.Mathlib.Omega.{arith}
@@ -71,14 +71,6 @@ words-decide v w m n r e f g h k =
     let a = beside-small v m e g in
     let b = beside-small w n f h in
     k ∙ rw (a .1, b .1, word-compare v w (a .0) (b .0))
-
-pub and-true : (b : Bool) → b && true ≡ b
-and-true true = refl
-and-true false = refl
-
-pub and-false : (b : Bool) → b && false ≡ false
-and-false true = refl
-and-false false = refl
 
 -- a label of no segment is none, wherever it would lie
 pub no-label : (f : ℕ → LocalSegment) (n : ℕ) → noLabel (listed f 0 n) ≡ eqb n 0

@@ -1,7 +1,7 @@
 -- The ways of the functions that give a word of fields.
 -- Assumes nothing.
 use mathlib.Core.Path.{_≡_, refl, _∙_}
-use mathlib.Core.Bool.{Bool, true, false}
+use mathlib.Core.Bool.{Bool, true, false, and-false}
 use mathlib.Core.List.{List, [], map}
 use Prim.Native.Nat.{ℕ, _+_, _-_, _*_, _^_, _≤_, _<_, min}
 use mir.Val as Width
@@ -22,7 +22,7 @@ use Rattle.version_word.specs.Small.{smallNumbers, numbersWord, smallRel
 use Rattle.version_word.specs.Fitted.{fittedIf, fittedNumber, numbersFitted, suffixFitted}
 use Rattle.version_word.specs.Beside.{wordIs, wordBeside, packedWord}
 use Rattle.version_word.proofs.Suffixes.{kind-digit}
-use Rattle.version_word.proofs.Beside.{and-false, no-label, value-packed}
+use Rattle.version_word.proofs.Beside.{no-label, value-packed}
 
 -- what a part's answer says of its test and number
 module _ (q : Fitted) (n : ℕ) where

@@ -1,6 +1,7 @@
 -- `version::comparing::compare_accepted` meets its contract: the words decide, or the fields.
 -- Assumes nothing.
 use borrow.Author.Needs.{needs}
+use borrow.Author.Tests.{eqb-false}
 use Rattle.version.proofs.Compares.{by-fields, by-words}
 use Rattle.version.proofs.comparing.compare_accepted.Statement.{statement}
 use Rattle.version.proofs.comparing.compare_accepted.Tie as tie
@@ -12,6 +13,4 @@ compare-accepted-spec =
     (λ c κs. search needs)
     (λ c. search by-fields)
     (λ c κs. search needs)
-    (λ c. search by-fields)
-    (λ c κs. search needs)
-    (λ c. search by-words))
+    (λ c. search (by-words, eqb-false)))

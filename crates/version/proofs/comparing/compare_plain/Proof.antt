@@ -1,6 +1,7 @@
 -- `version::comparing::compare_plain` meets its contract.
 -- Assumes nothing.
 use borrow.Author.Needs.{needs}
+use borrow.Author.Tests.{eqb-false}
 use Rattle.version_word.proofs.Beside.{plain-words-decide}
 use Rattle.version.proofs.comparing.compare_plain.Statement.{statement}
 use Rattle.version.proofs.comparing.compare_plain.Tie as tie
@@ -14,6 +15,4 @@ compare-plain-spec =
     (λ c κs. search needs)
     (λ c. search needs)
     (λ c κs. search needs)
-    (λ c. search needs)
-    (λ c κs. search needs)
-    (λ c. search plain-words-decide))
+    (λ c. search (plain-words-decide, eqb-false)))
