@@ -1,8 +1,10 @@
 pub mod Operators
 pub mod Trims
 pub mod Clauses
+pub mod Steps
+pub mod Walks
 pub mod Lists
-pub mod Turns
+pub mod Origins
 pub mod Faults
 pub mod Rows
 pub mod Exactly

@@ -1,5 +1,6 @@
 pub mod Operator
 pub mod Trim
 pub mod Clause
+pub mod Step
 pub mod List
 pub mod Refusals

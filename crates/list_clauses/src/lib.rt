@@ -2,4 +2,5 @@
 pub mod clause;
 pub mod list;
 pub mod operator;
-pub mod trim;
+pub mod step;
+mod trim;
