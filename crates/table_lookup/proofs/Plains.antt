@@ -122,7 +122,7 @@ module _ (s : List ℕ) (h : PlainHead) (p : HeadRead s h) (some-there : h .coun
           pre = a;
           post = b;
           dev = c;
-          plain = omega arith;
+          short = omega arith;
           label = tt;
         }
 
