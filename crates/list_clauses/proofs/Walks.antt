@@ -92,9 +92,9 @@ module _ (s : List ℕ) (count start : ℕ) (W : Walked s count start) where
     unfolding stepAt
     here = ap (λ y. y .clause) e ∙ ap (clauseIn s) (W .at)
 
-    more : firstClauses s count ++ (x .clause ∷ []) ≡ firstClauses s (count + 1)
+    pub clauses-more : firstClauses s count ++ (x .clause ∷ []) ≡ firstClauses s (count + 1)
     unfolding firstClauses
-    more = rw (add-one count, here)
+    clauses-more = rw (add-one count, here)
 
     pub walk-refused : (x .clause .refusal ≡ 0 → ⊥) → refused (x .clause .refusal) (x .clause .place) ≡ clausesFrom 16 s 0
     walk-refused g =
@@ -102,11 +102,11 @@ module _ (s : List ℕ) (count start : ℕ) (W : Walked s count start) where
 
     module _ (g : x .clause .refusal ≡ 0) where
       read-more : All Read (firstClauses s (count + 1))
-      read-more = rw more at (all-more (firstClauses s count) (x .clause) (W .read) g)
+      read-more = rw clauses-more at (all-more (firstClauses s count) (x .clause) (W .read) g)
 
       pub walk-last : x .part .last ≡ true → clauses (firstClauses s (count + 1)) ≡ clausesFrom 16 s 0
       walk-last h =
-          rw (← more)
+          rw (← clauses-more)
           (sym (after-last (firstClauses s count) (x .clause)) ∙ (rw (room, step-last s start (16 - (count + 1)) x e g h) at (W .rest)))
 
       pub walk-more : x .part .last ≡ false → Walked s (count + 1) (x .part .next)
@@ -115,7 +115,7 @@ module _ (s : List ℕ) (count start : ℕ) (W : Walked s count start) where
         at = rw (add-one count, e, W .at);
         read = read-more;
         rest =
-            rw (← more)
+            rw (← clauses-more)
             (sym (after-more (firstClauses s count) (x .clause) _) ∙ (rw (room, step-more s start (16 - (count + 1)) x e g h) at (W .rest)));
       }
 
