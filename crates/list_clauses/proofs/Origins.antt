@@ -2,12 +2,14 @@
 -- Assumes nothing.
 use mathlib.Core.Path.{_≡_, refl}
 use mathlib.Core.Bool.{true, false}
-use mathlib.Core.List.{List}
-use Prim.Native.Nat.{ℕ, _+_, _≤_}
+use mathlib.Core.List.{List, [], _∷_}
+use Prim.Native.Nat.{ℕ, zero, suc, _+_, _≤_}
 use native.Mathlib.Omega.{arith}
 use lib.Dec.{eqb, ltb}
 use lib.ListN.{length, drop}
 use borrow.Author.Tests.{eqb-true}
+use Rattle.order.specs.All.{All}
+use Rattle.order.proofs.Elements.{all-append}
 use Rattle.version_reading.specs.declared.text.Verdict.{Verdict}
 use Rattle.version_reading.specs.declared.text.Verdict.the-variants.{Accepted, Refused}
 use Rattle.version_reading.specs.Reading.{longest, patternOf}
@@ -30,7 +32,7 @@ use Rattle.list_clauses.specs.Clause.{
   operatorClause,
   clauseOf,
 }
-use Rattle.list_clauses.specs.Step.{partStart, partEnd, bytesIn, clauseIn}
+use Rattle.list_clauses.specs.Step.{partStart, partEnd, bytesIn, clauseIn, startAt, firstClauses}
 
 pub data Origin : Clause → Type 0 where
   refused : (number place : ℕ) → 1 ≤ number → Origin (refusedClause number place)
@@ -85,3 +87,9 @@ clause-origin s start =
       | holds e ↦ rw e (Origin.refused 8 longest (omega arith))
       | fails e ↦ rw e (bytes-origin (bytesIn s (partStart s start) (partEnd s start)) start (partStart s start))
     ]
+
+pub first-origins : (s : List ℕ) (n : ℕ) → All Origin (firstClauses s n)
+unfolding firstClauses
+first-origins s zero = tt
+first-origins s (suc n) =
+    all-append Origin (firstClauses s n) (clauseIn s (startAt s n) ∷ []) (first-origins s n) (clause-origin s (startAt s n), tt)

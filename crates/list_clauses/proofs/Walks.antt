@@ -10,6 +10,7 @@ use native.Mathlib.Omega.{arith}
 use lib.ListN.{length, length-append}
 use borrow.Author.Tests.{eq-eqb, ne-eqb}
 use Rattle.order.specs.All.{All}
+use Rattle.order.proofs.Elements.{all-append}
 use Rattle.version.proofs.Answers.{flag-cases, holds, fails}
 use Rattle.list_clauses.specs.declared.clause.Clause.{Clause}
 use Rattle.list_clauses.specs.declared.step.Step.{Step}
@@ -59,10 +60,6 @@ after-more (d ∷ cs) c l = rw (after-more cs c l)
 abbrev pub Read : Clause → Type 0
 Read c = c .refusal ≡ 0
 
-all-more : (cs : List Clause) (c : Clause) → All Read cs → Read c → All Read (cs ++ (c ∷ []))
-all-more [] c a r = (r, tt)
-all-more (d ∷ cs) c a r = (a .0, all-more cs c (a .1) r)
-
 -- `count` clauses were read, and the next one starts at `start`
 pub record Walked (s : List ℕ) (count start : ℕ) : Type 0 where
   pub at : start ≡ startAt s count
@@ -102,7 +99,7 @@ module _ (s : List ℕ) (count start : ℕ) (W : Walked s count start) where
 
     module _ (g : x .clause .refusal ≡ 0) where
       read-more : All Read (firstClauses s (count + 1))
-      read-more = rw clauses-more at (all-more (firstClauses s count) (x .clause) (W .read) g)
+      read-more = rw clauses-more at (all-append Read (firstClauses s count) (x .clause ∷ []) (W .read) (g, tt))
 
       pub walk-last : x .part .last ≡ true → clauses (firstClauses s (count + 1)) ≡ clausesFrom 16 s 0
       walk-last h =
