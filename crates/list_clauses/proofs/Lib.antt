@@ -3,6 +3,7 @@ pub mod Trims
 pub mod Clauses
 pub mod Steps
 pub mod Walks
+pub mod CommasCounted
 pub mod Lists
 pub mod Origins
 pub mod Faults

@@ -10,6 +10,7 @@ use Rattle.list_clauses.specs.declared.step.Step.{Step}
 use Rattle.answers.specs.declared.Measured.{Measured}
 use Rattle.list_clauses.specs.Operator.{Operated}
 use Rattle.list_clauses.specs.Step.{PartIs, StepIs}
+use Rattle.list_clauses.specs.Commas.{Commas}
 use Rattle.list_clauses.specs.List.{checked}
 
 pub one-check : (s : List ℕ) {r q : Measured} → r ≡ checked s → q ≡ checked s → r ≡ q
@@ -23,3 +24,6 @@ one-step p q = one-answer (p .is) (q .is)
 
 pub one-operator : {s : List ℕ} {spec r q : OperatorAt} → Operated s spec r → Operated s spec q → r ≡ q
 one-operator p q = one-answer (p .is) (q .is)
+
+pub one-comma-count : {s : List ℕ} {r q : ℕ} → Commas s r → Commas s q → r ≡ q
+one-comma-count p q = one-answer (p .is) (q .is)

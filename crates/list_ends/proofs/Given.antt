@@ -31,7 +31,7 @@ pub made-topmost : (room : ℕ) (r : End) → r ≡ topmost → EndIs top room r
 made-topmost room r e = rw e (record { is = refl; few = omega arith; size = refl })
 
 -- the same place, said another way
-elsewhere : {p : Place} {room : ℕ} {r : End} (q : Place) (other : ℕ) → EndIs p room r → p ≡ q → room ≤ other → EndIs q other r
+pub elsewhere : {p : Place} {room : ℕ} {r : End} (q : Place) (other : ℕ) → EndIs p room r → p ≡ q → room ≤ other → EndIs q other r
 elsewhere q other h e k = record { is = h .is ∙ e; few = omega (arith, h .few); size = h .size }
 
 -- n is what `match_end` gives
