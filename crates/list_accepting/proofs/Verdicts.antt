@@ -3,8 +3,8 @@
 use mathlib.Core.Path.{_≡_, refl, sym, _∙_, ap}
 use mathlib.Core.Logic.{inl, inr}
 use mathlib.Core.Bool.{Bool, true, false, _&&_}
-use mathlib.Core.List.{List, [], _∷_}
-use Prim.Native.Nat.{ℕ, suc, _+_, _-_, _≤_, _<_}
+use mathlib.Core.List.{List, [], _∷_, _++_}
+use Prim.Native.Nat.{ℕ, suc, _+_, _≤_, _<_}
 use native.Mathlib.Omega.{arith}
 use lib.ListN.{length}
 use types.Run.{OneOf}
@@ -20,36 +20,16 @@ use Rattle.version_reading.specs.declared.text.Verdict.the-variants.{Accepted, 
 use Rattle.version_reading.specs.Reading.{versionOf}
 use Rattle.version_reading.specs.Value.{Value, valueOf}
 use Rattle.list_clauses.specs.declared.clause.Clause.{Clause}
-use Rattle.list_accepting.specs.declared.accept.Said.{Said}
+use Rattle.list_clauses.specs.declared.step.Step.{Step}
 use Rattle.answers.specs.declared.YesNo.{YesNo}
 use Rattle.answers.specs.declared.YesNo.the-variants.{Yes, First as OfList, Second as OfVersion}
-use Rattle.list_clauses.specs.List.{Listing, refused, clauses, behind, commaAfter, clauseAt, clauseIn, clausesFrom, listOf}
-use Rattle.list_accepting.specs.Accept.{clauseAccepts, saying, allAccept, judgedBy, accepted}
+use Rattle.list_clauses.specs.Step.{stepAt, firstClauses}
+use Rattle.list_clauses.specs.List.{Listing, refused, clauses, clausesFrom, listOf}
+use Rattle.list_accepting.specs.Accept.{clauseAccepts, allAccept, judgedBy, accepted}
 use Rattle.answers.proofs.YesNo.{the-type}
-use Rattle.list_clauses.proofs.Lists.{clause-inside, say-full, say-refused, say-last, say-more, listed-long, listed-blank, listed-some}
+use Rattle.list_clauses.proofs.Walks.{Walked, walk-full, walk-refused, walk-last, clauses-more}
+use Rattle.list_clauses.proofs.Lists.{listed-long, listed-blank, listed-some}
 use Rattle.list_accepting.proofs.Holding.{blind-all}
-
--- what a list says of w, where the clauses before it say `before`
-abbrev pub told : Bool → Value → Listing → YesNo
-told before w (refused number place) = OfList (refusal number place)
-told before w (clauses cs) = yesOrNo (before && allAccept cs w)
-
-and-then : (a b c : Bool) → a && (b && c) ≡ (a && b) && c
-and-then true b c = refl
-and-then false b c = refl
-
-and-alone : (a b : Bool) → a && (b && true) ≡ a && b
-and-alone true true = refl
-and-alone true false = refl
-and-alone false b = refl
-
-told-behind : (before : Bool) (w : Value) (c : Clause) (l : Listing) → told before w (behind c l) ≡ told (before && clauseAccepts c w) w l
-told-behind before w c (refused number place) = refl
-told-behind before w c (clauses cs) = ap yesOrNo (and-then before (clauseAccepts c w) (allAccept cs w))
-
-pub told-first : (w : Value) (l : Listing) → told true w l ≡ judgedBy l Accepted w
-told-first w (refused number place) = refl
-told-first w (clauses cs) = refl
 
 -- the ways of `all_accept`
 pub one-more : (before h q : Bool) → before ≡ true → q ≡ h → q ≡ before && h
@@ -58,35 +38,40 @@ one-more before h q e f = rw e f
 pub one-failed : (before h : Bool) → before ≡ false → false ≡ before && h
 one-failed before h e = rw e
 
--- the ways of `accept_clauses`, with n clauses before `start`
-module _ (s : List ℕ) (w : Value) (n start : ℕ) (before : Bool) (t : YesNo) (same : told before w (clausesFrom (16 - n) s start) ≡ t) where
-  pub accept-full : n ≡ 16 → OfList (refusal 17 start) ≡ t
-  accept-full = say-full (told before w) s n start t same
+and-true : (a : Bool) → a && true ≡ a
+and-true true = refl
+and-true false = refl
 
-  -- x is what the clause there says
-  module _ (end : ℕ) (x : Said) (few : n ≤ 16) (some : n ≡ 16 → ⊥) (e : end ≡ commaAfter s start)
-      (d : x ≡ saying before (clauseIn s start) w) (short : length s ≤ 1024) where
-    here : clauseIn s start ≡ clauseAt s start end
-    here = sym (clause-inside s start end _ short e refl)
+and-then : (a b c : Bool) → a && (b && c) ≡ (a && b) && c
+and-then true b c = refl
+and-then false b c = refl
 
-    pub accept-refused : (x .refusal ≡ 0 → ⊥) → OfList (refusal (x .refusal) (x .place)) ≡ t
-    accept-refused g = rw d (say-refused (told before w) s n start t same end _ few some e here (λ q. g (rw d q)))
+-- one clause after others
+accept-snoc : (cs : List Clause) (c : Clause) (w : Value) → allAccept (cs ++ (c ∷ [])) w ≡ allAccept cs w && clauseAccepts c w
+accept-snoc [] c w = and-true (clauseAccepts c w)
+accept-snoc (d ∷ cs) c w = rw (accept-snoc cs c w) (and-then (clauseAccepts d w) (allAccept cs w) (clauseAccepts c w))
 
-    module _ (g : x .refusal ≡ 0) where
-      none : clauseIn s start .refusal ≡ 0
-      none = ap (λ y. y .refusal) (sym d) ∙ g
+-- the ways of `accept_clauses`
+pub accept-none : (s : List ℕ) (w : Value) → true ≡ allAccept (firstClauses s 0) w
+unfolding firstClauses
+accept-none s w = refl
 
-      pub accept-last : (q : YesNo) → end ≡ length s → q ≡ yesOrNo (x .holds) → q ≡ t
-      accept-last q h k =
-          let last : x .holds ≡ before && (clauseAccepts (clauseIn s start) w && true) =
-          rw (and-alone before (clauseAccepts (clauseIn s start) w)) (ap (λ y. y .holds) d) in
-          k ∙ (ap yesOrNo last ∙ say-last (told before w) s n start t same end _ few some e here none h)
+module _ (s : List ℕ) (w : Value) (count start : ℕ) (W : Walked s count start) where
+  pub accept-full : count ≡ 16 → OfList (refusal 17 start) ≡ judgedBy (clausesFrom 16 s 0) Accepted w
+  accept-full f = ap (λ l. judgedBy l Accepted w) (walk-full s count start W f)
 
-      pub accept-more : (end ≡ length s → ⊥) → told (x .holds) w (clausesFrom (16 - (n + 1)) s (end + 1)) ≡ t
-      accept-more h =
-          ap (λ y. told (y .holds) w (clausesFrom (16 - (n + 1)) s (end + 1))) d
-          ∙ (sym (told-behind before w (clauseIn s start) (clausesFrom (16 - (n + 1)) s (end + 1)))
-          ∙ say-more (told before w) s n start t same end _ few some e here none h)
+  module _ (x : Step) (e : x ≡ stepAt s start) (few : count ≤ 16) (some : count ≡ 16 → ⊥) where
+    pub accept-refused : (x .clause .refusal ≡ 0 → ⊥) →
+        OfList (refusal (x .clause .refusal) (x .clause .place)) ≡ judgedBy (clausesFrom 16 s 0) Accepted w
+    accept-refused g = ap (λ l. judgedBy l Accepted w) (walk-refused s count start W x e few some g)
+
+    -- b is what the clauses so far say with this one
+    module _ (before b : Bool) (h : before ≡ allAccept (firstClauses s count) w) (k : b ≡ before && clauseAccepts (x .clause) w) where
+      pub accept-more : b ≡ allAccept (firstClauses s (count + 1)) w
+      accept-more = rw (← clauses-more s count start W x e few some) (k ∙ rw h (sym (accept-snoc (firstClauses s count) (x .clause) w)))
+
+      pub accept-last : (q : YesNo) → x .clause .refusal ≡ 0 → x .part .last ≡ true → q ≡ yesOrNo b → q ≡ judgedBy (clausesFrom 16 s 0) Accepted w
+      accept-last q g l m = m ∙ ap yesOrNo accept-more ∙ ap (λ y. judgedBy y Accepted w) (walk-last s count start W x e few some g l)
 
 -- the ways of `accept_version`
 pub accept-long : (s : List ℕ) (w : Value) → 1024 < length s → OfList (refusal 8 1024) ≡ judgedBy (listOf s) Accepted w

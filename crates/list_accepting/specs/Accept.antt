@@ -16,7 +16,6 @@ use Rattle.version_prefix.specs.Prefix.{prefixMatches, shorter}
 use Rattle.list_clauses.specs.declared.operator.Operator.{Operator}
 use Rattle.list_clauses.specs.declared.operator.Operator.the-variants.{Equal, NotEqual, Compatible, AtMost, AtLeast, Below, Above}
 use Rattle.list_clauses.specs.declared.clause.Clause.{Clause}
-use Rattle.list_accepting.specs.declared.accept.Said.{Said}
 use Rattle.answers.specs.declared.YesNo.{YesNo}
 use Rattle.answers.specs.declared.YesNo.the-variants.{First as OfList, Second as OfVersion}
 use Rattle.list_clauses.specs.List.{Listing, refused, clauses, listOf}
@@ -57,10 +56,6 @@ clauseValue c = valueOf [] (c .version)
 
 abbrev pub clauseAccepts : Clause → Value → Bool
 clauseAccepts c w = holds (c .operator) (c .wildcard) (clauseValue c) w
-
--- what a clause says of w, where those before it say `before`
-abbrev pub saying : Bool → Clause → Value → Said
-saying before c w = record { refusal = c .refusal; place = c .place; holds = before && clauseAccepts c w }
 
 -- each clause by itself
 abbrev pub allAccept : List Clause → Value → Bool

@@ -4,26 +4,16 @@ use answers::Refusal;
 use answers::YesNo;
 use chars::class;
 use list_clauses::clause::Clause;
-use list_clauses::list::clause_in;
-use list_clauses::list::comma_after;
+use list_clauses::step::step_at;
 use version_parts::fields::Version;
 ghost use mathlib.Core.Path.{_≡_};
 ghost use mathlib.Core.Bool.{_&&_};
 ghost use mathlib.Core.List.{[]};
-ghost use Prim.Native.Nat.{_≤_};
-ghost use lib.ListN.{length};
 ghost use Rattle.answers.specs.YesNo.{yesOrNo};
 ghost use Rattle.version_reading.specs.declared.text.Verdict.the-variants.{Accepted};
 ghost use Rattle.version_reading.specs.Value.{valueOf};
-ghost use Rattle.list_clauses.specs.List.{clauseIn, clausesFrom, listOf};
-ghost use Rattle.list_accepting.specs.Accept.{clauseAccepts, saying, judgedBy};
-
-// What one clause says behind others: its refusal, number 0 where there is none, and whether all of them hold so far.
-pub struct Said {
-    pub refusal: u8,
-    pub place: usize,
-    pub holds: bool,
-}
+ghost use Rattle.list_clauses.specs.List.{clausesFrom, listOf};
+ghost use Rattle.list_accepting.specs.Accept.{clauseAccepts, judgedBy};
 
 pub(crate) fn yes_or_no(holds: bool) -> YesNo
     ensures { λ r. ⌜ r ≡ yesOrNo holds ⌝ }
@@ -31,8 +21,8 @@ pub(crate) fn yes_or_no(holds: bool) -> YesNo
     if holds { YesNo::Yes } else { YesNo::No }
 }
 
-// Behind a clause that does not hold none is evaluated.
-fn all_accept(before: bool, clause: Clause, version: Version) -> bool
+// After a clause that does not hold none is evaluated.
+pub(crate) fn all_accept(before: bool, clause: Clause, version: Version) -> bool
     ensures { λ r. ⌜ r ≡ before && clauseAccepts clause (valueOf [] version) ⌝ }
 {
     if before {
@@ -41,21 +31,8 @@ fn all_accept(before: bool, clause: Clause, version: Version) -> bool
     false
 }
 
-pub(crate) fn say_version(list: &[u8], start: usize, before: bool, version: Version) -> Said
-    ensures { λ r. ⌜ r ≡ saying before (clauseIn (now (list .entry)) start) (valueOf [] version) ⌝ }
-{
-    let clause = clause_in(list, start);
-    let holds = all_accept(before, clause, version);
-    Said {
-        refusal: clause.refusal,
-        place: clause.place,
-        holds,
-    }
-}
-
-// Each clause is read, also behind one that does not hold: a list that is refused further on is refused.
+// Each clause is read, also after one that does not hold: a list that is refused further on is refused.
 fn accept_clauses(list: &[u8], version: Version) -> YesNo
-    requires { ⌜ length (now list) ≤ 1024 ⌝ }
     ensures { λ r. ⌜ r ≡ judgedBy (clausesFrom 16 (now (list .entry)) 0) Accepted (valueOf [] version) ⌝ }
 {
     let mut count = 0usize;
@@ -68,20 +45,20 @@ fn accept_clauses(list: &[u8], version: Version) -> YesNo
                 place: start,
             });
         }
-        let end = comma_after(list, start);
-        let said = say_version(list, start, so_far, version);
-        if said.refusal != 0 {
+        let read = step_at(list, start);
+        let clause = read.clause;
+        if clause.refusal != 0 {
             return YesNo::First(Refusal {
-                number: said.refusal,
-                place: said.place,
+                number: clause.refusal,
+                place: clause.place,
             });
         }
-        so_far = said.holds;
+        so_far = all_accept(so_far, clause, version);
         count += 1;
-        if end == list.len() {
+        if read.part.last {
             return yes_or_no(so_far);
         }
-        start = end + 1;
+        start = read.part.next;
     }
 }
 

@@ -2,13 +2,12 @@
 -- Assumes nothing.
 use mathlib.Core.Path.{_≡_}
 use mathlib.Core.List.{List}
-use Prim.Native.Nat.{ℕ, _+_, _-_, _^_, _≤_, _<_}
+use Prim.Native.Nat.{ℕ, _+_, _-_, _≤_}
 use native.Mathlib.Omega.{arith}
 use mir.Val.{Fits}
 use mir.Syntax.{w64}
 use lib.ListN.{length, take, drop, length-drop}
-use Rattle.chars.specs.Class.{blank, between, front}
-use Rattle.chars.proofs.Cases.{yes-is, no-is}
+use Rattle.chars.proofs.Cases.{yes-eq, no-eq}
 use Rattle.chars.proofs.Parts.{take-rest}
 use Rattle.answers.specs.declared.Refusal.{Refusal}
 use Rattle.version_reading.specs.declared.text.Verdict.{Verdict}
@@ -20,10 +19,9 @@ use Rattle.list_clauses.specs.declared.operator.OperatorAt.{OperatorAt}
 use Rattle.list_clauses.specs.declared.operator.OperatorAt.the-variants.{Found, Missing}
 use Rattle.list_clauses.specs.declared.clause.Clause.{Clause}
 use Rattle.list_clauses.specs.Operator.{operatorOf, operatorLength}
-use Rattle.list_clauses.specs.Trim.{trimmedLength}
-use Rattle.list_clauses.specs.Clause.{refusedClause, judged, patternClause, trimmedClause, clauseOf}
+use Rattle.list_clauses.specs.Clause.{refusedClause, judged, patternClause, clauseOf}
 
--- what was read behind the operator, by its verdict v
+-- what was read after the operator, by its verdict v
 module _ (operator : Operator) (text : List ℕ) (place : ℕ) (read : PatternReading) (v : Verdict) (q : Clause)
     (d : read ≡ patternOf text) (e : v ≡ read .verdict) where
   pub pattern-refused : (x : Refusal) → v ≡ Refused x → q ≡ refusedClause (x .number) (place + x .place) → q ≡ patternClause operator text place
@@ -38,44 +36,33 @@ module _ (operator : Operator) (text : List ℕ) (place : ℕ) (read : PatternRe
 pub place-fits : (v : Verdict) (x : Refusal) (place n : ℕ) → placeOf v ≤ longest → v ≡ Refused x → place + n ≤ 1024 → Fits w64 (place + x .place)
 place-fits v x place n h f g = record { fits = omega (arith, rw f at h) }
 
--- so many blanks lead the trimmed bytes
-module _ (t : List ℕ) (start lead : ℕ) (q : Clause) (e : lead ≡ front (between blank blank) t) where
-  pub clause-empty : lead ≡ length t → q ≡ refusedClause 12 start → q ≡ trimmedClause t start
-  unfolding trimmedClause
-  clause-empty f g = yes-is (length t) _ e f g
+-- t are the clause's bytes without outer blanks
+module _ (t : List ℕ) (start from : ℕ) (q : Clause) where
+  pub clause-empty : length t ≡ 0 → q ≡ refusedClause 12 start → q ≡ clauseOf t start from
+  unfolding clauseOf
+  clause-empty f g = yes-eq (length t) 0 _ f g
 
-  -- r is the operator behind the blanks
-  module _ (r : OperatorAt) (some : lead ≡ length t → ⊥) (f : r ≡ operatorOf (take (length t - lead) (drop lead t))) where
-    operator-there : r ≡ operatorOf (drop lead t)
-    operator-there = rw (take-rest t lead) at f
-
-    pub clause-missing : r ≡ Missing → q ≡ refusedClause 13 (start + lead) → q ≡ trimmedClause t start
-    unfolding trimmedClause
-    clause-missing g h = no-is _ _ e some (rw (← e, ← operator-there, g) h)
+  -- r is the operator in front of them
+  module _ (r : OperatorAt) (some : length t ≡ 0 → ⊥) (f : r ≡ operatorOf t) where
+    pub clause-missing : r ≡ Missing → q ≡ refusedClause 13 from → q ≡ clauseOf t start from
+    unfolding clauseOf
+    clause-missing g h = no-eq (length t) 0 _ some (rw (← f, g) h)
 
     pub clause-read : (operator : Operator) (width : ℕ) → r ≡ Found operator width →
-        q ≡ patternClause operator (take (length t - (lead + width)) (drop (lead + width) t)) (start + (lead + width)) → q ≡ trimmedClause t start
-    unfolding trimmedClause
+        q ≡ patternClause operator (take (length t - width) (drop width t)) (from + width) → q ≡ clauseOf t start from
+    unfolding clauseOf
     clause-read operator width g i =
-        let rest : q ≡ patternClause operator (drop (lead + width) t) (start + (lead + width)) = rw (take-rest t (lead + width)) at i in
-        no-is _ _ e some (rw (← e, ← operator-there, g) rest)
+        let rest : q ≡ patternClause operator (drop width t) (from + width) = rw (take-rest t width) at i in
+        no-eq (length t) 0 _ some (rw (← f, g) rest)
 
 -- the operator ends within the clause
-module _ (t : List ℕ) (lead : ℕ) (r : OperatorAt) (operator : Operator) (width : ℕ)
-    (h : operatorLength r ≤ length (take (length t - lead) (drop lead t))) (f : r ≡ Found operator width) where
-  pub operator-ends : lead ≤ length t → lead + width ≤ length t
-  operator-ends g = omega (arith, rw f at (rw (take-rest t lead) at h), length-drop lead t)
+module _ (t : List ℕ) (r : OperatorAt) (operator : Operator) (width : ℕ) (h : operatorLength r ≤ length t) (f : r ≡ Found operator width) where
+  pub operator-ends : width ≤ length t
+  operator-ends = rw f at h
 
-  pub operator-fits : lead ≤ length t → length t < 2 ^ 64 → Fits w64 (lead + width)
-  operator-fits g k = record { fits = omega (arith, operator-ends g) }
+  module _ (from : ℕ) (some : length t ≡ 0 → ⊥) (room : length t ≤ 1024 - from) where
+    pub operator-place : Fits w64 (from + width)
+    operator-place = record { fits = omega (arith, operator-ends) }
 
-  pub operator-place : (start : ℕ) → lead ≤ length t → start + length t ≤ 1024 → Fits w64 (start + (lead + width))
-  operator-place start g k = record { fits = omega (arith, operator-ends g) }
-
-  pub pattern-room : (start : ℕ) → lead ≤ length t → start + length t ≤ 1024 →
-      start + (lead + width) + length (take (length t - (lead + width)) (drop (lead + width) t)) ≤ 1024
-  pattern-room start g k = rw (take-rest t (lead + width), length-drop (lead + width) t) (omega (arith, operator-ends g))
-
-pub clause-trimmed : (bytes : List ℕ) (start n : ℕ) (q : Clause) → n ≡ trimmedLength bytes → q ≡ trimmedClause (take n bytes) start → q ≡ clauseOf bytes start
-unfolding clauseOf
-clause-trimmed bytes start n q a e = rw (← a) e
+    pub pattern-room : from + width + length (take (length t - width) (drop width t)) ≤ 1024
+    pattern-room = rw (take-rest t width, length-drop width t) (omega (arith, operator-ends))

@@ -4,16 +4,15 @@ use mathlib.Core.Path.{_≡_, refl, sym, _∙_, ap}
 use mathlib.Core.Logic.{_↔_}
 use mathlib.Core.List.{List}
 use Prim.Native.Nat.{ℕ, suc}
-use native.Mathlib.Nat.{zero-add}
 use native.Mathlib.Omega.{arith}
 use lib.ListN.{length}
 use Rattle.answers.specs.declared.Refusal.{Refusal}
 use Rattle.answers.specs.Refusal.{refusal}
 use Rattle.list_clauses.specs.declared.clause.Clause.{Clause}
 use Rattle.answers.specs.declared.Measured.the-variants.{Length, Refused}
-use Rattle.list_clauses.specs.List.{Listing, refused, clauses, listOf, countFrom, checked}
+use Rattle.list_clauses.specs.List.{Listing, refused, clauses, listOf, countOf, checked}
 use Rattle.list_clauses.specs.Refusals.{Row}
-use Rattle.list_clauses.proofs.Lists.{one-refusal, not-both}
+use Rattle.list_clauses.proofs.Walks.{one-refusal, not-both}
 use Rattle.list_clauses.proofs.Rows.{refused-in-its-case, row-of-refusal}
 
 -- a list with its clauses
@@ -46,18 +45,18 @@ module _ (s : List ℕ) where
   list-read-exactly = (listed-without-row, λ none. without-row none (listOf s) refl)
 
 -- checking it
-count-refused : (l : Listing) {n p : ℕ} → countFrom 0 l ≡ Refused (refusal n p) → l ≡ refused n p
+count-refused : (l : Listing) {n p : ℕ} → countOf l ≡ Refused (refusal n p) → l ≡ refused n p
 count-refused (refused m q) {n = n} {p = p} e = let same : refusal m q ≡ refusal n p = cc in same-listing same
 count-refused (clauses cs) e = cc
 
-count-listed : (l : Listing) (count : ℕ) → countFrom 0 l ≡ Length count → Listed l
+count-listed : (l : Listing) (count : ℕ) → countOf l ≡ Length count → Listed l
 count-listed (refused m q) count e = let impossible : m ≡ suc m = cc in absurd (omega arith)
 count-listed (clauses cs) count e = (cs, refl)
 
 module _ (s : List ℕ) where
   pub check-refused-exactly : (n p : ℕ) → (checked s ≡ Refused (refusal n p)) ↔ Row s n p
   unfolding checked
-  check-refused-exactly n p = (λ e. row-of-refusal s n p (count-refused (listOf s) e), λ r. ap (countFrom 0) (refused-in-its-case s n p r))
+  check-refused-exactly n p = (λ e. row-of-refusal s n p (count-refused (listOf s) e), λ r. ap (countOf) (refused-in-its-case s n p r))
 
   counted-without-row : ((count : ℕ) × (checked s ≡ Length count)) → NoRow s
   unfolding checked
@@ -65,7 +64,7 @@ module _ (s : List ℕ) where
 
   counted : (cs : List Clause) → listOf s ≡ clauses cs → checked s ≡ Length (length cs)
   unfolding checked
-  counted cs e = rw e (ap Length (zero-add (length cs)))
+  counted cs e = rw e
 
   without-row-counted : NoRow s → (count : ℕ) × (checked s ≡ Length count)
   without-row-counted none = let l = list-read-exactly s .1 none in (length (l .0), counted (l .0) (l .1))

@@ -1,8 +1,11 @@
 pub mod Operators
 pub mod Trims
 pub mod Clauses
+pub mod Steps
+pub mod Walks
+pub mod CommasCounted
 pub mod Lists
-pub mod Turns
+pub mod Origins
 pub mod Faults
 pub mod Rows
 pub mod Exactly

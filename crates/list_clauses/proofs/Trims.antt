@@ -1,17 +1,16 @@
--- Trailing blanks and commas: one step of each loop.
+-- Trailing blanks: one step of the loop.
 -- Assumes nothing.
 use mathlib.Core.Path.{_≡_, refl, sym, _∙_}
 use mathlib.Core.Bool.{Bool, true, false}
 use mathlib.Core.List.{List, [], _∷_, _++_}
-use Prim.Native.Nat.{ℕ, suc, _+_, _-_, _≤_, _<_}
-use native.Mathlib.Numerals.{add-one}
+use Prim.Native.Nat.{ℕ, suc, _-_, _≤_, _<_}
 use native.Mathlib.Omega.{arith}
 use lib.Dec.{eqb}
-use lib.ListN.{length, getD, take, drop, drop-of-length-le}
-use lib.Seq.{drop-cons, take-suc, length-take-le}
+use lib.ListN.{length, getD, take}
+use lib.Seq.{take-suc, length-take-le}
 use borrow.Author.Tests.{eq-eqb, ne-eqb}
 use Rattle.chars.specs.Class.{classOf, blank}
-use Rattle.list_clauses.specs.Trim.{kept, trimmedLength, beforeComma}
+use Rattle.list_clauses.specs.Trim.{kept, trimmedLength}
 
 kept-some : (t : Bool) (n : ℕ) → kept t (suc n) ≡ suc (suc n)
 kept-some true n = rw (ne-eqb (suc n) 0 (λ q. omega arith))
@@ -50,23 +49,3 @@ module _ (s : List ℕ) (n r : ℕ) (same : trimmedLength (take n s) ≡ trimmed
 pub trim-none : (s : List ℕ) (n : ℕ) → trimmedLength (take n s) ≡ trimmedLength s → n ≤ 0 → 0 ≡ trimmedLength s
 unfolding trimmedLength
 trim-none s n same h = let z : n ≡ 0 = omega arith in rw z at same
-
--- the ways of `before_comma`, at place i
-module _ (s : List ℕ) (i : ℕ) (same : i + beforeComma (drop i s) ≡ beforeComma s) where
-  pub comma-here : i < length s → getD s i 0 ≡ 44 → i ≡ beforeComma s
-  unfolding beforeComma
-  comma-here h e =
-      let stop : i + beforeComma (drop i s) ≡ i = rw (drop-cons s i 0 h, eq-eqb _ _ e) (omega arith) in
-      sym stop ∙ same
-
-  pub comma-later : i < length s → (getD s i 0 ≡ 44 → ⊥) → i + 1 + beforeComma (drop (i + 1) s) ≡ beforeComma s
-  unfolding beforeComma
-  comma-later h e =
-      let on : i + 1 + beforeComma (drop (i + 1) s) ≡ i + beforeComma (drop i s) = rw (drop-cons s i 0 h, ne-eqb _ _ e, add-one i) (omega arith) in
-      on ∙ same
-
-  pub comma-never : length s ≤ i → i ≡ beforeComma s
-  unfolding beforeComma
-  comma-never h =
-      let stop : i + beforeComma (drop i s) ≡ i = rw (drop-of-length-le s h) (omega arith) in
-      sym stop ∙ same

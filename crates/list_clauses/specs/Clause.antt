@@ -4,8 +4,7 @@ use mathlib.Core.Bool.{Bool, false, cond}
 use mathlib.Core.List.{List}
 use Prim.Native.Nat.{ℕ, _+_, _≤_}
 use lib.Dec.{eqb}
-use lib.ListN.{length, take, drop}
-use Rattle.chars.specs.Class.{blank, between, front}
+use lib.ListN.{length, drop}
 use Rattle.version_parts.specs.declared.fields.Version.{Version}
 use Rattle.version_reading.specs.declared.text.Verdict.{Verdict}
 use Rattle.version_reading.specs.declared.text.Verdict.the-variants.{Accepted, Refused}
@@ -18,7 +17,6 @@ use Rattle.list_clauses.specs.declared.operator.OperatorAt.{OperatorAt}
 use Rattle.list_clauses.specs.declared.operator.OperatorAt.the-variants.{Found, Missing}
 use Rattle.list_clauses.specs.declared.clause.Clause.{Clause}
 use Rattle.list_clauses.specs.Operator.{operatorOf}
-use Rattle.list_clauses.specs.Trim.{trimmedLength}
 
 abbrev pub refusedClause : ℕ → ℕ → Clause
 refusedClause number place = record {
@@ -38,7 +36,7 @@ readClause operator wildcard version = record {
   version = version;
 }
 
--- a wildcard behind an operator other than `==` and `!=`
+-- a wildcard after an operator other than `==` and `!=`
 abbrev pub strayWildcard : Operator → Bool → Bool
 strayWildcard Equal wildcard = false
 strayWildcard NotEqual wildcard = false
@@ -58,7 +56,7 @@ tooShort AtLeast count = false
 tooShort Below count = false
 tooShort Above count = false
 
--- 14, then 15, then 16, placed behind the operator
+-- 14, then 15, then 16, placed after the operator
 unfoldable pub judged : Operator → Bool → Version → ℕ → Clause
 judged operator wildcard version place =
     cond (strayWildcard operator wildcard)
@@ -75,21 +73,14 @@ patternJudged operator place read (Refused refusal) = refusedClause (refusal .nu
 unfoldable pub patternClause : Operator → List ℕ → ℕ → Clause
 patternClause operator text place = patternJudged operator place (patternOf text) (patternOf text .verdict)
 
--- the operator stands behind the leading blanks of the trimmed bytes
-abbrev pub operatorClause : List ℕ → ℕ → ℕ → OperatorAt → Clause
-operatorClause trimmed start lead (Found operator width) =
-    patternClause operator (drop (lead + width) trimmed) (start + (lead + width))
-operatorClause trimmed start lead Missing = refusedClause 13 (start + lead)
+-- the operator stands in front of the clause's bytes, and the pattern after it
+abbrev pub operatorClause : List ℕ → ℕ → OperatorAt → Clause
+operatorClause bytes from (Found operator width) = patternClause operator (drop width bytes) (from + width)
+operatorClause bytes from Missing = refusedClause 13 from
 
--- trailing blanks are dropped before anything else, then leading blanks skipped
-unfoldable pub trimmedClause : List ℕ → ℕ → Clause
-trimmedClause trimmed start =
-    let lead = front (between blank blank) trimmed in
-    cond (eqb lead (length trimmed)) (refusedClause 12 start)
-    (operatorClause trimmed start lead (operatorOf (drop lead trimmed)))
-
-unfoldable pub clauseOf : List ℕ → ℕ → Clause
-clauseOf bytes start = trimmedClause (take (trimmedLength bytes) bytes) start
+-- the clause that starts there, by its bytes without outer blanks, which stand at `from`
+unfoldable pub clauseOf : List ℕ → ℕ → ℕ → Clause
+clauseOf bytes start from = cond (eqb (length bytes) 0) (refusedClause 12 start) (operatorClause bytes from (operatorOf bytes))
 
 -- what a caller may count on beside the equation
 pub record ClauseIs (spec r : Clause) : Type 0 where

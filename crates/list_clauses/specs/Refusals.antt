@@ -2,8 +2,8 @@
 use mathlib.Core.Path.{_≡_}
 use mathlib.Core.Bool.{true, false}
 use mathlib.Core.List.{List}
-use Prim.Native.Nat.{ℕ, suc, _+_, _-_, _≤_, _<_}
-use lib.ListN.{length, take, drop}
+use Prim.Native.Nat.{ℕ, suc, _+_, _≤_, _<_}
+use lib.ListN.{length, drop}
 use Rattle.chars.specs.Class.{blank, between, front}
 use Rattle.version_reading.specs.declared.text.Verdict.the-variants.{Accepted}
 use Rattle.version_reading.specs.declared.text.PatternReading.{PatternReading}
@@ -12,59 +12,52 @@ use Rattle.version.specs.Refusals.{Fault as PatternFault}
 use Rattle.list_clauses.specs.declared.operator.Operator.{Operator}
 use Rattle.list_clauses.specs.declared.operator.OperatorAt.the-variants.{Found, Missing}
 use Rattle.list_clauses.specs.Operator.{operatorOf}
-use Rattle.list_clauses.specs.Trim.{trimmedLength}
 use Rattle.list_clauses.specs.Clause.{strayWildcard, tooShort}
-use Rattle.list_clauses.specs.List.{commaAfter}
+use Rattle.list_clauses.specs.Step.{commaAfter, partStart, partBytes}
 
--- the bytes of the clause that starts there, up to its comma and without trailing blanks
-abbrev pub trimmedAt : List ℕ → ℕ → List ℕ
-trimmedAt s start = let bytes = take (commaAfter s start - start) (drop start s) in take (trimmedLength bytes) bytes
-
--- where the operator should stand: behind the leading blanks
-abbrev pub lead : List ℕ → ℕ
-lead t = front (between blank blank) t
-
--- an operator stands there, and its pattern begins at `from`
-pub record OperatorRead (t : List ℕ) (operator : Operator) (from : ℕ) : Type 0 where
-  pub width : ℕ
-  pub some : lead t ≡ length t → ⊥
-  pub found : operatorOf (drop (lead t) t) ≡ Found operator width
-  pub behind : from ≡ lead t + width
+-- an operator stands in front of the bytes t, and its pattern after that many bytes
+pub record OperatorRead (t : List ℕ) (operator : Operator) (width : ℕ) : Type 0 where
+  pub some : length t ≡ 0 → ⊥
+  pub found : operatorOf t ≡ Found operator width
 
 -- the pattern was read, by its own rules
-pub record PatternRead (t : List ℕ) (operator : Operator) (from : ℕ) (pattern : PatternReading) : Type 0 where
-  pub operated : OperatorRead t operator from
-  pub is : pattern ≡ patternOf (drop from t)
+pub record PatternRead (t : List ℕ) (operator : Operator) (width : ℕ) (pattern : PatternReading) : Type 0 where
+  pub operated : OperatorRead t operator width
+  pub is : pattern ≡ patternOf (drop width t)
   pub read : pattern .verdict ≡ Accepted
 
--- the rows of one clause, its trimmed bytes being t, by number and place
-pub data Fault (t : List ℕ) (start : ℕ) : ℕ → ℕ → Type 0 where
+-- the rows of one clause by number and place: it starts at `start`, and its bytes without outer blanks are t, at `from`
+pub data Fault (t : List ℕ) (start from : ℕ) : ℕ → ℕ → Type 0 where
   -- an empty clause
-  empty : lead t ≡ length t → Fault t start 12 start
+  empty : length t ≡ 0 → Fault t start from 12 start
   -- no operator, or `===`
-  no-operator : (lead t ≡ length t → ⊥) → operatorOf (drop (lead t) t) ≡ Missing → Fault t start 13 (start + lead t)
+  no-operator : (length t ≡ 0 → ⊥) → operatorOf t ≡ Missing → Fault t start from 13 from
   -- the pattern's own
-  in-pattern : (operator : Operator) (from number place : ℕ) → OperatorRead t operator from → PatternFault true (drop from t) number place →
-      Fault t start number (start + from + place)
+  in-pattern : (operator : Operator) (width number place : ℕ) → OperatorRead t operator width → PatternFault true (drop width t) number place →
+      Fault t start from number (from + width + place)
   -- a wildcard with an operator other than `==` and `!=`
-  stray-wildcard : (operator : Operator) (from : ℕ) (pattern : PatternReading) → PatternRead t operator from pattern →
-      strayWildcard operator (pattern .wildcard) ≡ true → Fault t start 14 (start + from)
+  stray-wildcard : (operator : Operator) (width : ℕ) (pattern : PatternReading) → PatternRead t operator width pattern →
+      strayWildcard operator (pattern .wildcard) ≡ true → Fault t start from 14 (from + width)
   -- a label
-  labelled : (operator : Operator) (from : ℕ) (pattern : PatternReading) → PatternRead t operator from pattern →
-      strayWildcard operator (pattern .wildcard) ≡ false → (pattern .version .local .len ≡ 0 → ⊥) → Fault t start 15 (start + from)
+  labelled : (operator : Operator) (width : ℕ) (pattern : PatternReading) → PatternRead t operator width pattern →
+      strayWildcard operator (pattern .wildcard) ≡ false → (pattern .version .local .len ≡ 0 → ⊥) → Fault t start from 15 (from + width)
   -- `~=` with one release number
-  too-short : (operator : Operator) (from : ℕ) (pattern : PatternReading) → PatternRead t operator from pattern →
+  too-short : (operator : Operator) (width : ℕ) (pattern : PatternReading) → PatternRead t operator width pattern →
       strayWildcard operator (pattern .wildcard) ≡ false → pattern .version .local .len ≡ 0 →
-      tooShort operator (pattern .version .release .len) ≡ true → Fault t start 16 (start + from)
+      tooShort operator (pattern .version .release .len) ≡ true → Fault t start from 16 (from + width)
+
+-- the rows of the clause that starts there
+abbrev pub FaultAt : List ℕ → ℕ → ℕ → ℕ → Type 0
+FaultAt s start = Fault (partBytes s start) start (partStart s start)
 
 -- a clause without a fault
 abbrev pub Faultless : List ℕ → ℕ → Type 0
-Faultless t start = (number place : ℕ) → Fault t start number place → ⊥
+Faultless s start = (number place : ℕ) → FaultAt s start number place → ⊥
 
--- so many clauses without a fault were read, and another begins at `start`
+-- that many clauses without a fault were read, and another begins at `start`
 pub data Begun (s : List ℕ) : ℕ → ℕ → Type 0 where
-  first : (lead s ≡ length s → ⊥) → Begun s 0 0
-  behind-comma : (count start : ℕ) → Begun s count start → Faultless (trimmedAt s start) start → (commaAfter s start ≡ length s → ⊥) →
+  first : (front (between blank blank) s ≡ length s → ⊥) → Begun s 0 0
+  after-comma : (count start : ℕ) → Begun s count start → Faultless s start → commaAfter s start < length s →
       Begun s (suc count) (commaAfter s start + 1)
 
 pub data Row (s : List ℕ) : ℕ → ℕ → Type 0 where
@@ -73,5 +66,5 @@ pub data Row (s : List ℕ) : ℕ → ℕ → Type 0 where
   -- a 17th clause begins
   too-many : (start : ℕ) → length s ≤ longest → Begun s 16 start → Row s 17 start
   -- a fault of one of the first 16
-  in-clause : (count start number place : ℕ) → length s ≤ longest → Begun s count start → count < 16 → Fault (trimmedAt s start) start number place →
+  in-clause : (count start number place : ℕ) → length s ≤ longest → Begun s count start → count < 16 → FaultAt s start number place →
       Row s number place

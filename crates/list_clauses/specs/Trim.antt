@@ -1,9 +1,8 @@
--- A text without its trailing blanks, and what stands before its first comma.
+-- A text without its trailing blanks.
 use mathlib.Core.Path.{_≡_}
 use mathlib.Core.Bool.{Bool, cond}
 use mathlib.Core.List.{List, [], _∷_}
 use Prim.Native.Nat.{ℕ, suc, _≤_}
-use Prim.Native.Char.{code}
 use lib.Dec.{eqb}
 use lib.ListN.{length}
 use Rattle.chars.specs.Class.{classOf, blank}
@@ -19,13 +18,4 @@ trimmedLength (b ∷ s) = kept (eqb (classOf b) blank) (trimmedLength s)
 
 pub record Trimmed (s : List ℕ) (r : ℕ) : Type 0 where
   pub is : r ≡ trimmedLength s
-  pub within : r ≤ length s
-
--- how many bytes stand before the first comma
-unfoldable pub beforeComma : List ℕ → ℕ
-beforeComma [] = 0
-beforeComma (b ∷ s) = cond (eqb b (code ",")) 0 (suc (beforeComma s))
-
-pub record Before (s : List ℕ) (r : ℕ) : Type 0 where
-  pub is : r ≡ beforeComma s
   pub within : r ≤ length s

@@ -2,8 +2,6 @@
 use crate::operator::Operator;
 use crate::operator::OperatorAt;
 use crate::operator::find_operator;
-use crate::trim::trimmed_len;
-use chars::class;
 use version_parts::fields::Local;
 use version_parts::fields::MaybeNumber;
 use version_parts::fields::Pre;
@@ -11,9 +9,9 @@ use version_parts::fields::Release;
 use version_parts::fields::Version;
 use version_reading::text::Verdict;
 ghost use mathlib.Core.Path.{_≡_};
-ghost use Prim.Native.Nat.{_+_, _≤_};
+ghost use Prim.Native.Nat.{_+_, _-_, _≤_};
 ghost use lib.ListN.{length};
-ghost use Rattle.list_clauses.specs.Clause.{ClauseIs, refusedClause, strayWildcard, tooShort, judged, patternClause, trimmedClause, clauseOf};
+ghost use Rattle.list_clauses.specs.Clause.{ClauseIs, refusedClause, strayWildcard, tooShort, judged, patternClause, clauseOf};
 
 // An operator and a pattern. A refusal's number is 0 where there is none, and nothing else is given beside one.
 pub struct Clause {
@@ -46,7 +44,7 @@ pub(crate) fn refused(number: u8, place: usize) -> Clause
     }
 }
 
-// A wildcard stands behind an operator that takes none.
+// A wildcard stands after an operator that takes none.
 fn stray_wildcard(operator: Operator, wildcard: bool) -> bool
     ensures { λ r. ⌜ r ≡ strayWildcard operator wildcard ⌝ }
 {
@@ -76,7 +74,7 @@ pub fn too_short(operator: Operator, count: usize) -> bool
     }
 }
 
-// Refusals 14 to 16 of a pattern that was read, in their order; the place is behind the operator.
+// Refusals 14 to 16 of a pattern that was read, in their order; `place` is where the pattern begins.
 fn judge(operator: Operator, wildcard: bool, version: Version, place: usize) -> Clause
     requires { ⌜ version .release .len ≤ 16 ⌝ }
     ensures { λ r. ⌜ ClauseIs (judged operator wildcard version place) r ⌝ }
@@ -99,7 +97,7 @@ fn judge(operator: Operator, wildcard: bool, version: Version, place: usize) -> 
     }
 }
 
-// The pattern behind an operator, at a place of the list.
+// The clause with `operator` and the pattern `text`, which stands at `place` of the list.
 fn read_pattern(operator: Operator, text: &[u8], place: usize) -> Clause
     requires { ⌜ place + length (now text) ≤ 1024 ⌝ }
     ensures { λ r. ⌜ ClauseIs (patternClause operator (now (text .entry)) place) r ⌝ }
@@ -113,27 +111,16 @@ fn read_pattern(operator: Operator, text: &[u8], place: usize) -> Clause
     judge(operator, read.wildcard, version, place)
 }
 
-// A clause without trailing blanks, at a place of the list.
-fn read_trimmed(bytes: &[u8], start: usize) -> Clause
-    requires { ⌜ start + length (now bytes) ≤ 1024 ⌝ }
-    ensures { λ r. ⌜ ClauseIs (trimmedClause (now (bytes .entry)) start) r ⌝ }
+// The clause that starts at `start`, by its bytes without outer blanks, which stand at `from`.
+pub(crate) fn read_clause(bytes: &[u8], start: usize, from: usize) -> Clause
+    requires { ⌜ length (now bytes) ≤ 1024 - from ⌝ }
+    ensures { λ r. ⌜ ClauseIs (clauseOf (now (bytes .entry)) start from) r ⌝ }
 {
-    let lead = class::run(bytes, class::BLANK, class::BLANK);
-    if lead == bytes.len() {
+    if bytes.len() == 0 {
         return refused(12, start);
     }
-    let OperatorAt::Found(operator, width) = find_operator(&bytes[lead..]) else {
-        return refused(13, start + lead);
+    let OperatorAt::Found(operator, width) = find_operator(bytes) else {
+        return refused(13, from);
     };
-    let from = lead + width;
-    read_pattern(operator, &bytes[from..], start + from)
-}
-
-// The clause whose bytes these are, at a place of the list.
-pub(crate) fn read_clause(bytes: &[u8], start: usize) -> Clause
-    requires { ⌜ start + length (now bytes) ≤ 1024 ⌝ }
-    ensures { λ r. ⌜ ClauseIs (clauseOf (now (bytes .entry)) start) r ⌝ }
-{
-    let len = trimmed_len(bytes);
-    read_trimmed(&bytes[..len], start)
+    read_pattern(operator, &bytes[width..], from + width)
 }

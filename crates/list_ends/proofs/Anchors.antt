@@ -2,89 +2,69 @@
 -- Assumes nothing.
 use mathlib.Core.Path.{_≡_, refl}
 use mathlib.Core.Bool.{Bool, true, false}
-use mathlib.Core.List.{List, [], _∷_, _++_}
-use Prim.Native.Nat.{ℕ, _-_}
-use lib.ListN.{length, replicate}
+use mathlib.Core.List.{List, [], _∷_}
+use Prim.Native.Nat.{ℕ}
 use Rattle.ranges.specs.Cut.{top, before, after}
 use Rattle.ranges.specs.Shape.{accepts}
 use Rattle.version_parts.specs.declared.fields.Pre.the-variants.{Absent as NoPre}
 use Rattle.version_parts.specs.declared.fields.MaybeNumber.the-variants.{Absent as NoPart}
-use Rattle.version_parts.specs.declared.fields.Version.{Version}
-use Rattle.version_parts.specs.Fields.{noLocal}
-use Rattle.version_reading.specs.Value.{Value, listed, valueOf}
+use Rattle.version_reading.specs.Value.{Value}
 use Rattle.decimal.specs.Parse.{largest}
 use Rattle.version_order.specs.Versions.{compareRelease, compareKey, comparePublic}
-use Rattle.version_prefix.specs.Next.{nextEpoch, nextFields}
 use Rattle.version_prefix.specs.Prefix.{nextPrefix, devZero}
 use Rattle.list_clauses.specs.declared.operator.Operator.{Operator}
 use Rattle.list_clauses.specs.declared.operator.Operator.the-variants.{Equal, NotEqual, Compatible, AtMost, AtLeast, Below, Above}
 use Rattle.list_ends.specs.Cut.{Place, lePlace}
+use Rattle.list_ends.specs.Ends.{firstPlace, secondPlace}
 use Rattle.list_ends.specs.Shape.{shapeOf}
-use Rattle.list_ends.specs.End.{placeOf, firstOf, secondOf}
-
--- an epoch and a release, as fields and as a value
-abbrev fields : ℕ → List ℕ → Version
-fields epoch release = record {
-  epoch = epoch;
-  release = record { numbers = release ++ replicate (16 - length release) 0; len = length release };
-  pre = NoPre;
-  post = NoPart;
-  dev = NoPart;
-  local = noLocal;
-}
 
 abbrev plain : ℕ → List ℕ → Value
 plain epoch release = record { epoch = epoch; release = release; pre = NoPre; post = NoPart; dev = NoPart; label = [] }
 
 abbrev starts : Operator → Bool → ℕ → List ℕ → Place
-starts o wildcard epoch release = placeOf (firstOf o wildcard (fields epoch release))
+starts o wildcard epoch release = firstPlace o wildcard (plain epoch release)
 
 abbrev ends : Operator → Bool → ℕ → List ℕ → Place
-ends o wildcard epoch release = placeOf (secondOf o wildcard (fields epoch release))
+ends o wildcard epoch release = secondPlace o wildcard (plain epoch release)
 
 -- `>=4`, `>4`, `<4`, `<=4`
 pub at-least-starts-before : starts AtLeast false 0 (4 ∷ []) ≡ before (plain 0 (4 ∷ []))
-unfolding valueOf listed
 at-least-starts-before = refl
 
 pub above-starts-after : starts Above false 0 (4 ∷ []) ≡ after (plain 0 (4 ∷ []))
-unfolding valueOf listed
 above-starts-after = refl
 
 pub below-ends-before : ends Below false 0 (4 ∷ []) ≡ before (plain 0 (4 ∷ []))
-unfolding valueOf listed
 below-ends-before = refl
 
 pub at-most-ends-after : ends AtMost false 0 (4 ∷ []) ≡ after (plain 0 (4 ∷ []))
-unfolding valueOf listed
 at-most-ends-after = refl
 
 -- `==4.*` starts before 4.dev0 and ends before 5.dev0
 pub match-starts : starts Equal true 0 (4 ∷ []) ≡ before (devZero 0 (4 ∷ []))
-unfolding valueOf listed
 match-starts = refl
 
 pub match-ends : ends Equal true 0 (4 ∷ []) ≡ before (devZero 0 (5 ∷ []))
-unfolding valueOf listed nextFields
+unfolding nextPrefix
 match-ends = refl
 
 -- the largest number is dropped: `==4.18446744073709551615.*` ends where `==4.*` does
 pub largest-dropped : ends Equal true 0 (4 ∷ largest ∷ []) ≡ before (devZero 0 (5 ∷ []))
-unfolding valueOf listed nextFields
+unfolding nextPrefix
 largest-dropped = refl
 
 -- `==18446744073709551615.*` ends before 1!0.dev0, and in the largest epoch there is no end
 pub next-epoch : ends Equal true 0 (largest ∷ []) ≡ before (devZero 1 (0 ∷ []))
-unfolding valueOf listed nextFields nextEpoch
+unfolding nextPrefix
 next-epoch = refl
 
 pub no-end : ends Equal true largest (largest ∷ []) ≡ top
-unfolding nextFields nextEpoch
+unfolding nextPrefix
 no-end = refl
 
 -- `~=4.2.1` ends before 4.3.dev0: it accepts 4.2.9, not 4.3 and not 4.2
 pub compatible-ends : ends Compatible false 0 (4 ∷ 2 ∷ 1 ∷ []) ≡ before (devZero 0 (4 ∷ 3 ∷ []))
-unfolding valueOf listed nextFields
+unfolding nextPrefix
 compatible-ends = refl
 
 abbrev taken : Operator → Bool → List ℕ → List ℕ → Bool

@@ -2,7 +2,6 @@ pub mod Anchors
 pub mod Sides
 pub mod Given
 pub mod Nexts
-pub mod Shapes
 pub mod Meanings
 pub mod Sounds
 pub mod Tables

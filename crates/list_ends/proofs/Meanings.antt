@@ -31,7 +31,8 @@ use Rattle.list_clauses.specs.declared.operator.Operator.the-variants.{Equal, N
 use Rattle.list_clauses.specs.declared.clause.Clause.{Clause}
 use Rattle.list_accepting.specs.Accept.{holds, clauseValue, clauseAccepts}
 use Rattle.list_ends.specs.Cut.{lePlace}
-use Rattle.list_ends.specs.Shape.{endsBefore, matchStart, matchEnd, shapeOf, clauseShape}
+use Rattle.list_ends.specs.Ends.{endsBefore, matchEnd}
+use Rattle.list_ends.specs.Shape.{shapeOf, clauseShape}
 
 -- not past the end of a match
 under-end : (end : Option Value) (w : Value) → not (lePlace (endsBefore end) (before w)) ≡ endsAbove end w
@@ -44,7 +45,7 @@ implied true q r f = rw (f refl)
 implied false q r f = refl
 
 module _ (v w : Value) (held : Held w) where
-  matches : within lePlace (matchStart v) (matchEnd v) (before w) ≡ prefixMatches v w
+  matches : within lePlace (before (prefixStart v)) (matchEnd v) (before w) ≡ prefixMatches v w
   matches = rw (past-before comparePublic (prefixStart v) w, under-end (prefixEnd v) w) (sym (prefix-law v w held))
 
   -- what is at least v is past the start of a match with fewer of its numbers

@@ -2,7 +2,7 @@
 -- Assumes nothing.
 use mathlib.Core.Path.{_≡_, refl}
 use mathlib.Core.Bool.{Bool, true, false, cond}
-use mathlib.Core.List.{List, [], _∷_, _++_}
+use mathlib.Core.List.{List, [], _∷_, _++_, map}
 use mathlib.Core.Option.{Option, none, some}
 use Prim.Native.Nat.{ℕ, zero, suc, _≤_, min}
 use native.Mathlib.Numerals.{add-one}
@@ -10,12 +10,15 @@ use native.Mathlib.Omega.{arith}
 use lib.Dec.{eqb}
 use lib.ListN.{length, getD, take}
 use lib.Seq.{take-suc, take-suc-set, take-take}
+use borrow.Author.Needs.{length-unmapped}
 use Rattle.version_parts.specs.declared.fields.Release.{Release}
 use Rattle.version_parts.specs.declared.fields.Version.{Version}
 use Rattle.version_parts.specs.Fields.{onlyNumber}
 use Rattle.version_reading.specs.Value.{Value, listed, valueOf}
 use Rattle.version_prefix.specs.declared.next.Next.{Next}
 use Rattle.decimal.specs.Parse.{largest}
+use Rattle.version_compare.proofs.Counts.{counted}
+use Rattle.version_roundtrip.proofs.ReadPlaces.{by-cond}
 use Rattle.version_prefix.specs.Next.{devZeroFields, startFields, raisedAt, next, noNext, nextEpoch, nextFields}
 use Rattle.version_prefix.specs.Prefix.{cutTo, nextRelease, raised, carried, nextPrefix, devZero, zeroed, prefixStart, prefixEnd}
 
@@ -67,9 +70,20 @@ next-of epoch r (suc i) h =
     go true ih = ih
     go false ih = rw (dev-zero-says epoch (raisedAt r i), raised-says r i h)
 
-pub next-says : (v : Version) (count : ℕ) → length (v .release .numbers) ≡ 16 → v .release .len ≤ 16 → count ≤ v .release .len →
+-- with the first `count` numbers for a prefix, as many as the version has at most
+pub next-says : (v : Version) (count : ℕ) → length (map (λ x. x) (v .release .numbers)) ≡ 16 → count ≤ v .release .len →
     nextValue (nextFields (v .epoch) (v .release) (min count 16)) ≡ prefixEnd (cutTo count (valueOf [] v))
 unfolding valueOf nextPrefix
-next-says v count size few h =
-    let all : min count 16 ≡ count = omega arith in
-    rw (all, take-take count (v .release .len) (v .release .numbers) h) (next-of (v .epoch) (v .release) count (omega arith))
+next-says v count size h =
+    let long : length (v .release .numbers) ≡ 16 = length-unmapped ℕ (v .release .numbers) 16 size in
+    rw (take-take count (v .release .len) (v .release .numbers) h, ← counted (v .release .numbers) count (min count 16) size refl)
+    (next-of (v .epoch) (v .release) (min count 16) (omega arith))
+
+-- it has 16 numbers at most
+pub next-few : (epoch : ℕ) (r : Release) (count : ℕ) → count ≤ 16 → nextFields epoch r count .version .release .len ≤ 16
+unfolding nextFields nextEpoch
+next-few epoch r zero few = by-cond (λ (n : Next). n .version .release .len ≤ 16) (eqb epoch largest) (λ e. omega arith) (λ e. omega arith)
+next-few epoch r (suc i) few =
+    by-cond (λ (n : Next). n .version .release .len ≤ 16) (eqb (getD (r .numbers) i 0) largest)
+    {a = nextFields epoch r i} {b = next (devZeroFields epoch (raisedAt r i))}
+    (λ e. next-few epoch r i (omega arith)) (λ e. omega arith)

@@ -22,16 +22,14 @@ use Rattle.version_order.specs.Versions.{comparePublic}
 use Rattle.version_prefix.specs.Prefix.{Held}
 use Rattle.version_order.proofs.Orders.{public-laws}
 use Rattle.version_roundtrip.proofs.ReadPlaces.{by-cond}
-use Rattle.list_clauses.specs.declared.operator.Operator.{Operator}
-use Rattle.list_clauses.specs.declared.operator.Operator.the-variants.{Equal, NotEqual, Compatible, AtMost, AtLeast, Below, Above}
 use Rattle.list_clauses.specs.declared.clause.Clause.{Clause}
-use Rattle.list_accepting.specs.Accept.{clauseValue, allAccept}
+use Rattle.list_accepting.specs.Accept.{allAccept}
 use Rattle.list_clauses.specs.List.{clauses, listOf}
 use Rattle.list_ends.specs.Cut.{Place, lePlace}
-use Rattle.list_ends.specs.End.{hollow}
-use Rattle.list_ends.specs.Shape.{shapeOf, clauseShape, rangesOf, negated}
+use Rattle.list_ends.specs.Ends.{firstEnd, secondEnd, hollow}
+use Rattle.list_ends.specs.Shape.{shaped, clauseShape, rangesOf, negated}
 use Rattle.list_ends.proofs.Meanings.{agrees, proper}
-use Rattle.list_ends.proofs.Sounds.{clauses-few}
+use Rattle.list_clauses.proofs.Lists.{all-read}
 
 -- places are an order with a lowest and a highest
 pub place-preorder : TotalPreorder lePlace
@@ -49,22 +47,14 @@ all-agree [] w held = refl
 all-agree (c ∷ cs) w held = ap₂ _&&_ (agrees c w held) (all-agree cs w held)
 
 -- a hole for each `!=`
-hole-by : (o : Operator) (wildcard : Bool) (v : Value) (ss : List (Shape Place)) →
-    holes (shapeOf o wildcard v ∷ ss) ≡ cond (hollow o) (suc (holes ss)) (holes ss)
-hole-by Equal false v ss = refl
-hole-by Equal true v ss = refl
-hole-by NotEqual false v ss = refl
-hole-by NotEqual true v ss = refl
-hole-by Compatible wildcard v ss = refl
-hole-by AtMost wildcard v ss = refl
-hole-by AtLeast wildcard v ss = refl
-hole-by Below wildcard v ss = refl
-hole-by Above wildcard v ss = refl
+hole-by : (gap : Bool) (lo hi : Place) (ss : List (Shape Place)) → holes (shaped gap lo hi ∷ ss) ≡ cond gap (suc (holes ss)) (holes ss)
+hole-by false lo hi ss = refl
+hole-by true lo hi ss = refl
 
 holes-negated : (cs : List Clause) → holes (map clauseShape cs) ≡ negated cs
 holes-negated [] = refl
 holes-negated (c ∷ cs) =
-    rw (hole-by (c .operator) (c .wildcard) (clauseValue c) (map clauseShape cs), holes-negated cs)
+    rw (hole-by (hollow (c .operator)) (firstEnd c) (secondEnd c) (map clauseShape cs), holes-negated cs)
 
 pub negated-most : (cs : List Clause) → negated cs ≤ length cs
 negated-most [] = omega arith
@@ -100,4 +90,4 @@ module _ (cs : List Clause) where
   ranges-count = omega (arith, table-length place-preorder place-bounded (map clauseShape cs) (all-proper cs), holes-negated cs)
 
 pub ranges-most : (s : List ℕ) (cs : List Clause) → listOf s ≡ clauses cs → length (rangesOf cs) ≤ 17
-ranges-most s cs e = omega (arith, ranges-count cs, negated-most cs, clauses-few s cs e)
+ranges-most s cs e = omega (arith, ranges-count cs, negated-most cs, all-read s cs e .few)

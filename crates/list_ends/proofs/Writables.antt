@@ -23,7 +23,8 @@ use Rattle.list_clauses.specs.declared.operator.Operator.the-variants.{Equal, N
 use Rattle.list_clauses.specs.declared.clause.Clause.{Clause}
 use Rattle.list_accepting.specs.Accept.{clauseValue}
 use Rattle.list_ends.specs.Cut.{Place}
-use Rattle.list_ends.specs.Shape.{endsBefore, matchEnd, shapeOf, clauseShape}
+use Rattle.list_ends.specs.Ends.{endsBefore, matchEnd, firstPlace, secondPlace, hollow, firstEnd, secondEnd}
+use Rattle.list_ends.specs.Shape.{shaped, clauseShape}
 use Rattle.list_ends.specs.Sound.{Sound}
 
 -- where there is a version, it can be written
@@ -99,17 +100,35 @@ module _ (v : Value) (w : Writable v) where
       end-holds (shorter v) (w .readable .epoch) (all-take Fits count (v .release) (w .readable .release))
       (omega (arith, length-take count (v .release), w .readable .few))
 
-  by-operator : (o : Operator) (wildcard : Bool) → Holds (lowerEnd (shapeOf o wildcard v)) × Holds (upperEnd (shapeOf o wildcard v))
-  by-operator Equal false = (w, w)
-  by-operator Equal true = (start, whole)
-  by-operator NotEqual false = (w, w)
-  by-operator NotEqual true = (whole, start)
-  by-operator Compatible wildcard = (w, less)
-  by-operator AtMost wildcard = (tt, w)
-  by-operator AtLeast wildcard = (w, tt)
-  by-operator Below wildcard = (tt, w)
-  by-operator Above wildcard = (w, tt)
+  first-holds : (o : Operator) (wildcard : Bool) → Holds (firstPlace o wildcard v)
+  first-holds Equal false = w
+  first-holds Equal true = start
+  first-holds NotEqual false = w
+  first-holds NotEqual true = start
+  first-holds Compatible wildcard = w
+  first-holds AtMost wildcard = tt
+  first-holds AtLeast wildcard = w
+  first-holds Below wildcard = tt
+  first-holds Above wildcard = w
+
+  second-holds : (o : Operator) (wildcard : Bool) → Holds (secondPlace o wildcard v)
+  second-holds Equal false = w
+  second-holds Equal true = whole
+  second-holds NotEqual false = w
+  second-holds NotEqual true = whole
+  second-holds Compatible wildcard = less
+  second-holds AtMost wildcard = w
+  second-holds AtLeast wildcard = tt
+  second-holds Below wildcard = w
+  second-holds Above wildcard = tt
+
+-- of a shape one end is the lower and the other the upper
+by-shape : (gap : Bool) (lo hi : Place) → Holds lo → Holds hi → Holds (lowerEnd (shaped gap lo hi)) × Holds (upperEnd (shaped gap lo hi))
+by-shape false lo hi h k = (h, k)
+by-shape true lo hi h k = (k, h)
 
 pub shape-holds : (c : Clause) → Sound c → Holds (lowerEnd (clauseShape c)) × Holds (upperEnd (clauseShape c))
 shape-holds c sound =
-    by-operator (clauseValue c) (record { readable = sound .readable; unlabelled = sound .unlabelled }) (c .operator) (c .wildcard)
+    let w : Writable (clauseValue c) = record { readable = sound .readable; unlabelled = sound .unlabelled } in
+    by-shape (hollow (c .operator)) (firstEnd c) (secondEnd c)
+    (first-holds (clauseValue c) w (c .operator) (c .wildcard)) (second-holds (clauseValue c) w (c .operator) (c .wildcard))

@@ -1,16 +1,12 @@
--- An end's fields, the place that they say, and the two ends of each clause as fields.
-use mathlib.Core.Bool.{Bool, true, false, cond}
+-- An end's fields, and the place that they say.
+use mathlib.Core.Path.{_≡_}
 use mathlib.Core.List.{[]}
-use Prim.Native.Nat.{ℕ, _-_, min}
+use Prim.Native.Nat.{ℕ, _≤_, max}
+use lib.ListN.{length}
 use Rattle.ranges.specs.Cut.{bot, top, before, after}
 use Rattle.version_parts.specs.declared.fields.Version.{Version}
 use Rattle.version_parts.specs.Fields.{noVersion}
 use Rattle.version_reading.specs.Value.{valueOf}
-use Rattle.version_prefix.specs.declared.next.Next.{Next}
-use Rattle.version_prefix.specs.Next.{startFields, nextFields}
-use Rattle.list_clauses.specs.declared.operator.Operator.{Operator}
-use Rattle.list_clauses.specs.declared.operator.Operator.the-variants.{Equal, NotEqual, Compatible, AtMost, AtLeast, Below, Above}
-use Rattle.list_clauses.specs.declared.clause.Clause.{Clause}
 use Rattle.list_ends.specs.declared.end.Side.{Side}
 use Rattle.list_ends.specs.declared.end.Side.the-variants.{Bottom, Top, Before, After}
 use Rattle.list_ends.specs.declared.end.End.{End}
@@ -48,52 +44,12 @@ bottom = endAt Bottom noVersion
 abbrev pub topmost : End
 topmost = endAt Top noVersion
 
--- before the next prefix, or no end
-abbrev pub nextEnd : Next → End
-nextEnd n = cond (n .exists) (endAt Before (n .version)) topmost
+-- as many release numbers as a version with these fields may have: 16, or more where it says so
+abbrev pub most : Version → ℕ
+most v = max 16 (v .release .len)
 
-abbrev pub matchLast : Version → ℕ → End
-matchLast v count = nextEnd (nextFields (v .epoch) (v .release) (min count 16))
-
--- the ends of what `==V` accepts, and with a wildcard of what it matches
-abbrev pub firstEqual : Bool → Version → End
-firstEqual wildcard v = cond wildcard (endAt Before (startFields v)) (endAt Before v)
-
-abbrev pub lastEqual : Bool → Version → End
-lastEqual wildcard v = cond wildcard (matchLast v (v .release .len)) (endAt After v)
-
--- the first end of what a clause accepts, or, with `!=`, does not
-abbrev pub firstOf : Operator → Bool → Version → End
-firstOf Equal wildcard v = firstEqual wildcard v
-firstOf NotEqual wildcard v = firstEqual wildcard v
-firstOf Compatible wildcard v = endAt Before v
-firstOf AtMost wildcard v = bottom
-firstOf AtLeast wildcard v = endAt Before v
-firstOf Below wildcard v = bottom
-firstOf Above wildcard v = endAt After v
-
--- and the second
-abbrev pub secondOf : Operator → Bool → Version → End
-secondOf Equal wildcard v = lastEqual wildcard v
-secondOf NotEqual wildcard v = lastEqual wildcard v
-secondOf Compatible wildcard v = matchLast v (v .release .len - 1)
-secondOf AtMost wildcard v = endAt After v
-secondOf AtLeast wildcard v = topmost
-secondOf Below wildcard v = endAt Before v
-secondOf Above wildcard v = topmost
-
-abbrev pub firstEnd : Clause → End
-firstEnd c = firstOf (c .operator) (c .wildcard) (c .version)
-
-abbrev pub secondEnd : Clause → End
-secondEnd c = secondOf (c .operator) (c .wildcard) (c .version)
-
--- `!=` accepts all but what lies between its ends
-abbrev pub hollow : Operator → Bool
-hollow NotEqual = true
-hollow Equal = false
-hollow Compatible = false
-hollow AtMost = false
-hollow AtLeast = false
-hollow Below = false
-hollow Above = false
+-- the fields say the place; what else is known of them makes their text the place's
+pub record EndIs (p : Place) (room : ℕ) (r : End) : Type 0 where
+  pub is : placeOf r ≡ p
+  pub few : r .version .release .len ≤ room
+  pub size : length (r .version .release .numbers) ≡ 16

@@ -1,4 +1,5 @@
 pub mod Cut
+pub mod Ends
 pub mod Shape
 pub mod End
 pub mod Number

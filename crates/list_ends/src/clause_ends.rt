@@ -3,16 +3,21 @@ use crate::end::End;
 use crate::end::Side;
 use list_clauses::clause::Clause;
 use list_clauses::operator::Operator;
+use order::smaller;
 use version_parts::fields::Version;
 use version_prefix::next::match_end;
 use version_prefix::next::match_start;
 ghost use mathlib.Core.Path.{_≡_};
-ghost use Prim.Native.Nat.{_-_};
+ghost use mathlib.Core.List.{[]};
+ghost use Prim.Native.Nat.{_-_, _≤_};
+ghost use Rattle.version_reading.specs.Value.{valueOf};
+ghost use Rattle.version_prefix.specs.Prefix.{cutTo, shorter};
 ghost use Rattle.list_ends.specs.declared.end.Side.the-variants.{Before, After};
-ghost use Rattle.list_ends.specs.End.{endAt, matchLast, firstEqual, lastEqual, firstEnd, secondEnd, hollow};
+ghost use Rattle.list_ends.specs.End.{placeAt, most, EndIs};
+ghost use Rattle.list_ends.specs.Ends.{matchEnd, equalStart, equalEnd, firstEnd, secondEnd, hollow};
 
 fn before(version: Version) -> End
-    ensures { λ r. ⌜ r ≡ endAt Before version ⌝ }
+    ensures { λ r. ⌜ EndIs (placeAt Before version) (most version) r ⌝ }
 {
     End {
         side: Side::Before,
@@ -21,7 +26,7 @@ fn before(version: Version) -> End
 }
 
 fn after(version: Version) -> End
-    ensures { λ r. ⌜ r ≡ endAt After version ⌝ }
+    ensures { λ r. ⌜ EndIs (placeAt After version) (most version) r ⌝ }
 {
     End {
         side: Side::After,
@@ -29,9 +34,10 @@ fn after(version: Version) -> End
     }
 }
 
-// Where a match of the first so many release numbers ends.
+// Where a match of the first `count` release numbers ends.
 fn match_last(version: Version, count: usize) -> End
-    ensures { λ r. ⌜ r ≡ matchLast version count ⌝ }
+    requires { ⌜ count ≤ version .release .len ⌝ }
+    ensures { λ r. ⌜ EndIs (matchEnd (cutTo count (valueOf [] version))) (most version) r ⌝ }
 {
     let next = match_end(version, count);
     if next.exists {
@@ -42,7 +48,7 @@ fn match_last(version: Version, count: usize) -> End
 }
 
 fn first_equal(wildcard: bool, version: Version) -> End
-    ensures { λ r. ⌜ r ≡ firstEqual wildcard version ⌝ }
+    ensures { λ r. ⌜ EndIs (equalStart wildcard (valueOf [] version)) (most version) r ⌝ }
 {
     if wildcard {
         return before(match_start(version));
@@ -51,7 +57,7 @@ fn first_equal(wildcard: bool, version: Version) -> End
 }
 
 fn last_equal(wildcard: bool, version: Version) -> End
-    ensures { λ r. ⌜ r ≡ lastEqual wildcard version ⌝ }
+    ensures { λ r. ⌜ EndIs (equalEnd wildcard (valueOf [] version)) (most version) r ⌝ }
 {
     if wildcard {
         return match_last(version, version.release.len);
@@ -65,9 +71,16 @@ fn less_one(n: usize) -> usize
     if 0 < n { n - 1 } else { 0 }
 }
 
+// Where a match of all release numbers but the last ends. A version has 16 at most.
+fn last_compatible(version: Version) -> End
+    ensures { λ r. ⌜ EndIs (matchEnd (shorter (valueOf [] version))) (most version) r ⌝ }
+{
+    match_last(version, less_one(smaller(version.release.len, 16)))
+}
+
 // Where what a clause accepts begins, or, with `!=`, what it does not accept.
 pub fn first_end(clause: Clause) -> End
-    ensures { λ r. ⌜ r ≡ firstEnd clause ⌝ }
+    ensures { λ r. ⌜ EndIs (firstEnd clause) (most (clause .version)) r ⌝ }
 {
     let operator = clause.operator;
     let version = clause.version;
@@ -84,14 +97,14 @@ pub fn first_end(clause: Clause) -> End
 
 // Where it ends.
 pub fn second_end(clause: Clause) -> End
-    ensures { λ r. ⌜ r ≡ secondEnd clause ⌝ }
+    ensures { λ r. ⌜ EndIs (secondEnd clause) (most (clause .version)) r ⌝ }
 {
     let operator = clause.operator;
     let version = clause.version;
     match operator {
         Operator::Equal => last_equal(clause.wildcard, version),
         Operator::NotEqual => last_equal(clause.wildcard, version),
-        Operator::Compatible => match_last(version, less_one(version.release.len)),
+        Operator::Compatible => last_compatible(version),
         Operator::AtMost => after(version),
         Operator::AtLeast => End::topmost(),
         Operator::Below => before(version),

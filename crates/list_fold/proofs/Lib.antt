@@ -5,8 +5,7 @@ pub mod Filled
 pub mod Tests
 pub mod Compared
 pub mod Stored
-pub mod Turned
-pub mod Shapes
+pub mod Numbered
 pub mod Folds
-pub mod Passes
+pub mod EndNumbers
 pub mod Numbers

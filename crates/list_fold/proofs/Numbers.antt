@@ -10,19 +10,19 @@ use Rattle.ranges.specs.Map.{mapRange}
 use Rattle.ranges.proofs.Same.{Between}
 use Rattle.list_clauses.specs.declared.clause.Clause.{Clause}
 use Rattle.list_clauses.specs.List.{clauses, listOf}
-use Rattle.list_clauses.proofs.Turns.{standing}
+use Rattle.list_clauses.proofs.Lists.{all-read}
 use Rattle.list_ends.specs.Number.{placeNumber}
 use Rattle.list_ends.specs.Shape.{rangesOf}
-use Rattle.list_ends.proofs.Sounds.{clauses-sound}
-use Rattle.list_fold.specs.declared.clauses.Folded.{Folded}
-use Rattle.list_fold.specs.Numbered.{numbered, FoldedAs}
-use Rattle.list_fold.proofs.Folds.{folded-places, folded-in}
+use Rattle.list_fold.specs.declared.fold.Folded.{Folded}
+use Rattle.list_fold.specs.Numbered.{numbered}
+use Rattle.list_fold.specs.Folded.{FoldedAs}
+use Rattle.list_fold.proofs.Numbered.{folded-places, folded-in}
 
 module _ (s : List ℕ) (cs : List Clause) (e : listOf s ≡ clauses cs) where
   -- number by number they are the ranges of the clauses
   pub numbered-places : map (mapRange (placeNumber s)) (numbered s) ≡ rangesOf cs
   unfolding numbered
-  numbered-places = rw e (folded-places s cs (standing s cs e .in-turn) (clauses-sound s cs e))
+  numbered-places = rw (e, all-read s cs e .are) (folded-places s (length cs))
 
   -- and each is the number of an end that the list has
   pub numbered-in : All (Between (λ n. n < 2 + 2 * length cs)) (numbered s)

@@ -1,4 +1,4 @@
 pub mod Row
 pub mod Ranges
 pub mod Numbered
-pub mod Turn
+pub mod Folded

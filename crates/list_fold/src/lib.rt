@@ -1,8 +1,8 @@
 // From a clause list to the numbers of its ranges' ends.
-pub mod clauses;
+mod clause;
 mod clip;
-mod few;
+pub mod end_number;
+pub mod fold;
+pub mod numbered_ranges;
 mod row;
 mod rows;
-pub mod slots;
-mod turn;

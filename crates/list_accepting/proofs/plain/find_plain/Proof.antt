@@ -1,6 +1,6 @@
--- `list_accepting::plain::find_plain` meets its contract.
+-- `list_accepting::plain::find_plain` meets its contract: one law for each way out.
 -- Assumes nothing.
-use lib.Seq.{length-take-le}
+use Rattle.list_clauses.proofs.Clauses.{operator-ends}
 use Rattle.list_accepting.proofs.PlainClauses.{clause-found}
 use borrow.Author.Needs.{needs}
 use Rattle.list_accepting.proofs.plain.find_plain.Statement.{statement}
@@ -10,7 +10,13 @@ pub find-plain-spec : {M : Type 1} → statement M
 find-plain-spec =
     tie.close
     (tie.spec
+    (λ c. search needs)
     (λ c κs. search needs)
-    (λ c. search (length-take-le, needs))
+    (λ c. search needs)
+    (λ c. search needs)
+    (λ c. search needs)
+    (λ c. search operator-ends)
+    (λ c. search operator-ends)
+    (λ c. search needs)
     (λ c κs. search needs)
     (λ c. search clause-found))

@@ -1,21 +1,19 @@
--- `list_accepting::plain_accept::accept_plains` meets its contract: what is said so far, with the clauses to come, is what all of them say.
+-- `list_accepting::plain_accept::accept_plains` meets its contract: so far `count` clauses were read, and `so_far` is what they say.
 -- Assumes nothing.
 use mathlib.Core.Path.{_≡_}
 use Prim.Native.Nat.{_-_, _≤_}
-use lib.ListN.{length}
-use Rattle.version_reading.specs.declared.text.Verdict.the-variants.{Accepted}
-use Rattle.list_clauses.specs.List.{clausesFrom}
-use Rattle.list_accepting.specs.Accept.{judgedBy}
+use Rattle.list_clauses.specs.Step.{firstClauses}
+use Rattle.list_clauses.proofs.Walks.{Walked, walk-none}
+use Rattle.list_accepting.specs.Accept.{allAccept}
 use Rattle.list_accepting.specs.Plain.{plainValue}
-use Rattle.list_accepting.proofs.Verdicts.{told, told-first, accept-full, accept-refused, accept-last, accept-more}
+use Rattle.list_accepting.proofs.Verdicts.{accept-none, accept-full}
+use Rattle.list_accepting.proofs.PlainClauses.{plain-refused, plain-last, plain-more, plain-walk}
 use borrow.Author.Needs.{needs}
 use Rattle.list_accepting.proofs.plain_accept.accept_plains.Statement.{statement}
 use Rattle.list_accepting.proofs.plain_accept.accept_plains.Tie as tie
 
 abbrev Inv-loop : tie.InvT-loop
-Inv-loop list candidate count₀ start₀ so-far₀ count start so-far =
-    (count ≤ 16) × (start ≤ length list)
-    × (told so-far (plainValue candidate) (clausesFrom (16 - count) list start) ≡ judgedBy (clausesFrom 16 list 0) Accepted (plainValue candidate))
+Inv-loop list candidate count₀ start₀ so-far₀ count start so-far = (count ≤ 16) × Walked list count start × (so-far ≡ allAccept (firstClauses list count) (plainValue candidate))
 
 abbrev μ-loop : tie.MeasureT-loop
 μ-loop list candidate count₀ start₀ so-far₀ count start so-far = 16 - count
@@ -26,14 +24,13 @@ accept-plains-spec =
     (tie.spec
     Inv-loop
     μ-loop
-    (λ c. (search needs, search needs, search told-first))
+    (λ c. (search needs, search walk-none, search accept-none))
     (λ c. search accept-full)
     (λ c κs. search needs)
     (λ c κs. search needs)
-    (λ c. search accept-refused)
+    (λ c. search plain-refused)
     (λ c. search needs)
     (λ c κs. search needs)
-    (λ c. search accept-last)
+    (λ c. search plain-last)
     (λ c. search needs)
-    (λ c. search needs)
-    (λ c. (search needs, search needs, search accept-more)))
+    (λ c. (search needs, search plain-walk, search plain-more)))

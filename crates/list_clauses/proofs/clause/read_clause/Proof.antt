@@ -1,9 +1,6 @@
--- `list_clauses::clause::read_clause` meets its contract.
+-- `list_clauses::clause::read_clause` meets its contract: one law for each way out.
 -- Assumes nothing.
-use lib.Seq.{length-take-le}
-use lib.ListN.{length-take}
-use native.Mathlib.Omega.{arith}
-use Rattle.list_clauses.proofs.Clauses.{clause-trimmed}
+use Rattle.list_clauses.proofs.Clauses.{clause-empty, clause-missing, clause-read, operator-ends, operator-place, pattern-room}
 use borrow.Author.Needs.{needs}
 use Rattle.list_clauses.proofs.clause.read_clause.Statement.{statement}
 use Rattle.list_clauses.proofs.clause.read_clause.Tie as tie
@@ -13,6 +10,15 @@ read-clause-spec =
     tie.close
     (tie.spec
     (λ c κs. search needs)
-    (λ c. search (length-take-le, needs))
-    (λ c κs. rw length-take (omega arith))
-    (λ c. record { is = search clause-trimmed; few = search needs }))
+    (λ c. record { is = search clause-empty; few = search needs })
+    (λ c κs. search needs)
+    (λ c. search needs)
+    (λ c. search needs)
+    (λ c κs. search needs)
+    (λ c. record { is = search clause-missing; few = search needs })
+    (λ c. search operator-ends)
+    (λ c. search operator-ends)
+    (λ c. search needs)
+    (λ c. search operator-place)
+    (λ c κs. search pattern-room)
+    (λ c. record { is = search clause-read; few = search needs }))

@@ -1,7 +1,7 @@
 -- `list_ends::clause_ends::first_end` meets its contract: one case for each operator.
 -- Assumes nothing.
+use Rattle.list_ends.proofs.Given.{first-by, made-bottom}
 use borrow.Author.Needs.{needs}
-use Rattle.list_ends.proofs.Given.{first-by}
 use Rattle.list_ends.proofs.clause_ends.first_end.Statement.{statement}
 use Rattle.list_ends.proofs.clause_ends.first_end.Tie as tie
 
@@ -26,7 +26,7 @@ first-end-spec =
     (λ c. search first-by)
     (λ c. search first-by)
     (λ c. search first-by)
+    (λ c. search (first-by, made-bottom))
     (λ c. search first-by)
-    (λ c. search first-by)
-    (λ c. search first-by)
+    (λ c. search (first-by, made-bottom))
     (λ c. search first-by))

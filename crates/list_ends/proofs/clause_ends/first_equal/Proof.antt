@@ -1,8 +1,7 @@
--- `list_ends::clause_ends::first_equal` meets its contract.
+-- `list_ends::clause_ends::first_equal` meets its contract: one law for each way out.
 -- Assumes nothing.
+use Rattle.list_ends.proofs.Given.{starts-match, starts-at}
 use borrow.Author.Needs.{needs}
-use Rattle.chars.proofs.Cases.{cases}
-use Rattle.list_ends.proofs.Given.{begins-before}
 use Rattle.list_ends.proofs.clause_ends.first_equal.Statement.{statement}
 use Rattle.list_ends.proofs.clause_ends.first_equal.Tie as tie
 
@@ -12,6 +11,6 @@ first-equal-spec =
     (tie.spec
     (λ c κs. search needs)
     (λ c κs. search needs)
-    (λ c. search begins-before)
+    (λ c. search starts-match)
     (λ c κs. search needs)
-    (λ c. search cases))
+    (λ c. search starts-at))

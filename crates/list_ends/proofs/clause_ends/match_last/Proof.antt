@@ -1,7 +1,7 @@
--- `list_ends::clause_ends::match_last` meets its contract.
+-- `list_ends::clause_ends::match_last` meets its contract: one law for each way out.
 -- Assumes nothing.
-use borrow.Author.Needs.{needs}
 use Rattle.list_ends.proofs.Given.{has-next, has-no-next}
+use borrow.Author.Needs.{needs}
 use Rattle.list_ends.proofs.clause_ends.match_last.Statement.{statement}
 use Rattle.list_ends.proofs.clause_ends.match_last.Tie as tie
 

@@ -1,7 +1,7 @@
 -- `list_ends::clause_ends::second_end` meets its contract: one case for each operator.
 -- Assumes nothing.
+use Rattle.list_ends.proofs.Given.{second-by, made-topmost}
 use borrow.Author.Needs.{needs}
-use Rattle.list_ends.proofs.Given.{second-by, compatible-ends}
 use Rattle.list_ends.proofs.clause_ends.second_end.Statement.{statement}
 use Rattle.list_ends.proofs.clause_ends.second_end.Tie as tie
 
@@ -15,7 +15,6 @@ second-end-spec =
     (λ c κs. search needs)
     (λ c. search needs)
     (λ c κs. search needs)
-    (λ c κs. search needs)
     (λ c. search needs)
     (λ c κs. search needs)
     (λ c. search needs)
@@ -26,8 +25,8 @@ second-end-spec =
     (λ c κs. search needs)
     (λ c. search second-by)
     (λ c. search second-by)
-    (λ c. search compatible-ends)
     (λ c. search second-by)
     (λ c. search second-by)
+    (λ c. search (second-by, made-topmost))
     (λ c. search second-by)
-    (λ c. search second-by))
+    (λ c. search (second-by, made-topmost)))
