@@ -64,7 +64,7 @@ typedef struct knappulf_answer {
 typedef struct knappulf_segment_field {
     uint64_t is_text; /* 1 for text, 0 for a number */
     uint64_t number;  /* 0 for text */
-    uint64_t start;   /* its bytes in the text: the first, and the one behind the last */
+    uint64_t start;   /* its bytes in the text: the first, and the one after the last */
     uint64_t end;
 } knappulf_segment_field;
 
@@ -102,7 +102,7 @@ uint8_t knappulf_pattern(const uint8_t *text, size_t text_length, knappulf_versi
  * begins in the text. Both are 0 for a number, a missing segment or a refused text. */
 size_t knappulf_segment(const uint8_t *text, size_t text_length, size_t index, uint64_t *start);
 
-/* Writes a version's normal text to the front of the buffer. The value is its length; what lies behind stays. */
+/* Writes a version's normal text to the front of the buffer. The value is its length; what lies after stays. */
 uint8_t knappulf_normal(const uint8_t *text, size_t text_length, uint8_t *buffer, size_t buffer_length, knappulf_answer *answer);
 
 /* The value is 0 where the first version is less, 1 where they are equal, 2 where it is greater. */
@@ -117,7 +117,7 @@ uint8_t knappulf_check(const uint8_t *list, size_t list_length, knappulf_answer 
 /* The value is 1 where every clause of the list accepts the version, else 0. */
 uint8_t knappulf_accepts(const uint8_t *list, size_t list_length, const uint8_t *version, size_t version_length, knappulf_answer *answer);
 
-/* Writes the range table of a list to the front of the buffer. The value is its length; what lies behind stays. */
+/* Writes the range table of a list to the front of the buffer. The value is its length; what lies after stays. */
 uint8_t knappulf_compile(const uint8_t *list, size_t list_length, uint8_t *buffer, size_t buffer_length, knappulf_answer *answer);
 
 /* The value is 1 where the table holds the version, else 0. */

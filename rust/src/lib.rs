@@ -121,7 +121,7 @@ pub fn segment(text: &[u8], index: usize) -> &[u8] {
 
 /// Writes a version's normal text to the front of a buffer, and gives that part of it.
 ///
-/// A refused call leaves the buffer as it was, and success what lies behind the text.
+/// A refused call leaves the buffer as it was, and success what lies after the text.
 ///
 /// ```
 /// let mut buffer = [0; knappulf::NORMAL_MOST];
@@ -181,7 +181,7 @@ pub fn accepts(list: &[u8], version: &[u8]) -> Result<bool, Refused> {
 
 /// Writes the range table of a list to the front of a buffer, and gives that part of it.
 ///
-/// A refused call leaves the buffer as it was, and success what lies behind the table. A call with no buffer tells
+/// A refused call leaves the buffer as it was, and success what lies after the table. A call with no buffer tells
 /// how long the table is:
 ///
 /// ```

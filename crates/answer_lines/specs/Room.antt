@@ -5,7 +5,7 @@ use lib.ListN.{length}
 use Rattle.answer_lines.specs.declared.room.Room.{Room}
 use Rattle.answer_lines.specs.declared.room.Room.the-variants.{At, Closed}
 
--- behind those that are there, if they leave room for the longest; else, once they are written, at the front, unless they can't be
+-- after those that are there, if they leave room for the longest; else, once they are written, at the front, unless they can't be
 pub data Roomed (out : List ℕ) (end longest : ℕ) : Room → Type 0 where
   behind : end + longest ≤ length out → Roomed out end longest (At end)
   emptied : length out < end + longest → Roomed out end longest (At 0)

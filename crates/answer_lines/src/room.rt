@@ -9,7 +9,7 @@ pub enum Room {
     Closed,
 }
 
-// Writes the answers that end at a place, if the next, which has at most so many bytes, might find no room behind them.
+// Writes the answers that end at a place, if the next, which has at most `longest` bytes, might find no room after them.
 pub fn make_room(out: &[u8], end: usize, longest: usize) -> Room
     ensures { λ r. ⌜ RoomFor (now (out .entry)) end longest r ⌝ }
 {

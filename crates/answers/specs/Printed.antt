@@ -1,4 +1,4 @@
--- What any printer answers and leaves behind, by the text that it is to write.
+-- What any printer answers and leaves after, by the text that it is to write.
 use mathlib.Core.Path.{_≡_}
 use mathlib.Core.Bool.{Bool, true, false}
 use mathlib.Core.List.{List, _++_}
@@ -22,7 +22,7 @@ filledIf false text buf = text ++ drop (length text) buf
 unfoldable pub answer : List ℕ → List ℕ → Measured
 answer text buf = answerIf (ltb (length buf) (length text)) text
 
--- the text, then what stood behind it; else the buffer as it was
+-- the text, then what stood after it; else the buffer as it was
 unfoldable pub filled : List ℕ → List ℕ → List ℕ
 filled text buf = filledIf (ltb (length buf) (length text)) text buf
 

@@ -43,7 +43,7 @@ row p g = p .kind ∷ p .number ∷ g .start ∷ g .end ∷ []
 unfoldable pub segmentRow : List ℕ → Local → ℕ → List ℕ
 segmentRow s l i = row (segmentPair (segmentOf (segmentBytes s l i))) (spanAt l i)
 
--- the rows from one on, so many
+-- `count` rows, from one on
 unfoldable pub segmentRows : List ℕ → Local → ℕ → ℕ → List ℕ
 segmentRows s l i zero = []
 segmentRows s l i (suc count) = segmentRow s l i ++ segmentRows s l (suc i) count

@@ -11,7 +11,7 @@ module _ (s : List ℕ) (a : ℕ) where
   pub part-past : (n : ℕ) → length s ≤ a → [] ≡ take n (drop a s)
   part-past n h = rw (drop-of-length-le s h, take-nil n)
 
-  -- a part that ends at or behind the text's end is the rest of the text
+  -- a part that ends at or after the text's end is the rest of the text
   pub part-rest : (e : ℕ) → length s ≤ e → take (e - a) (drop a s) ≡ drop a s
   part-rest e h = take-all (e - a) (drop a s) (omega (arith, length-drop a s))
 

@@ -25,7 +25,7 @@ pub sets-past : (s l : List ℕ) (i : ℕ) → length l ≤ i → sets l i s ≡
 sets-past [] l i h = refl
 sets-past (a ∷ s) l i h = rw (set-out l i a h) (sets-past s l (suc i) (omega arith))
 
--- the second text follows the first, also where the first ends behind the last place
+-- the second text follows the first, also where the first ends after the last place
 follow : (s t l : List ℕ) (i : ℕ) → length l ≤ farthest → sets (sets l i s) (onward i (length s)) t ≡ sets l i (s ++ t)
 follow s t l i h = go (leb (i + length s) farthest) refl
   where
@@ -44,7 +44,7 @@ follow s t l i h = go (leb (i + length s) farthest) refl
 pub nothing : (l : List ℕ) (i : ℕ) → length l < 2 ^ 64 → i < 2 ^ 64 → Wrote l i [] l i
 nothing l i h g = record { bytes = refl; moved = omega arith; size = omega arith }
 
--- a byte behind the buffer's end changes nothing
+-- a byte after the buffer's end changes nothing
 pub byte-out : (l : List ℕ) (i b j : ℕ) → length l ≤ i → length l ≤ farthest → j ≡ onward i 1 → Wrote l i (b ∷ []) l j
 byte-out l i b j h g e = record { bytes = sym (set-out l i b h); moved = e; size = g }
 

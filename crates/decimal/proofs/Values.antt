@@ -100,7 +100,7 @@ other-class b r e h = rw (← e) (go (leb 3 r) (leb r 3) refl refl)
     go true false p q = refl
     go false y p q = refl
 
--- the value of the digits at the front of s, behind digits of value v
+-- the value of the digits at the front of s, after digits of value v
 abbrev pub leadingFrom : ℕ → List ℕ → ℕ
 leadingFrom v s = valueFrom v (take (digitsOf s) s)
 
@@ -146,7 +146,7 @@ module _ (s : List ℕ) (i : ℕ) (same : i + front isZero (drop i s) ≡ front 
   pub zeros-on : i < length s → getD s i 0 ≡ 48 → i + 1 + front isZero (drop (i + 1) s) ≡ front isZero s
   zeros-on h e = run-step isZero s i h (eq-eqb _ 48 e) ∙ same
 
--- the start of `leading_number`, behind n zeros
+-- the start of `leading_number`, after n zeros
 module _ (s : List ℕ) (n : ℕ) (e : n ≡ front isZero s) where
   pub lead-count : n + digitsOf (drop n s) ≡ digitsOf s
   lead-count = rw e (zeros-count s)

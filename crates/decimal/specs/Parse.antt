@@ -24,7 +24,7 @@ pub record Digit (b r : ℕ) : Type 0 where
   pub is : r ≡ digitOf b
   pub small : r ≤ 9
 
--- the value of the digits s behind digits of value v
+-- the value of the digits s after digits of value v
 unfoldable pub valueFrom : ℕ → List ℕ → ℕ
 valueFrom v [] = v
 valueFrom v (b ∷ s) = valueFrom (v * 10 + digitOf b) s
@@ -44,7 +44,7 @@ sized len TooBig = LeadingTooBig
 abbrev pub isZero : ℕ → Bool
 isZero b = eqb b (code "0")
 
--- so many digits with their value; none where there is no digit
+-- a number of that many digits with its value; none where there is no digit
 abbrev pub counted : ℕ → ℕ → Leading
 counted value count = cond (eqb count 0) Absent (Read value count)
 

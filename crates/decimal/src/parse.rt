@@ -34,7 +34,7 @@ fn digit(b: u8) -> u64
     (b - b'0') as u64
 }
 
-// Whether one more digit behind a value is too much for 64 bits.
+// Whether one more digit after a value is too much for 64 bits.
 fn overflows(value: u64, d: u64) -> bool
     requires { ⌜ d ≤ 9 ⌝ }
     ensures { λ r. ⌜ r ≡ leb (2 ^ 64) (value * 10 + d) ⌝ }
@@ -68,7 +68,7 @@ pub fn parse_u64(digits: &[u8]) -> Number
     Number::Value(value)
 }
 
-// So many digits with their value; none where there is no digit.
+// A number of `count` digits with its value; none where there is no digit.
 fn counted(value: u64, count: usize) -> Leading
     ensures { λ r. ⌜ r ≡ counted value count ⌝ }
 {

@@ -1,11 +1,11 @@
-// Writing into a lent buffer. Each writer stores what has room, and always answers the place behind its text:
+// Writing into a lent buffer. Each writer stores what has room, and always answers the place after its text:
 // over an empty buffer it gives the length of what it would write.
 ghost use mathlib.Core.List.{[], _∷_};
 ghost use lib.ListN.{length};
 ghost use Rattle.decimal.specs.Digits.{decimal};
 ghost use Rattle.decimal.specs.Put.{Further, Put};
 
-// The only function that stores. The last place that 64 bits can say stands for all behind it.
+// The only function that stores. The last place that 64 bits can say stands for all after it.
 pub fn put_byte(buf: &mut [u8], at: usize, b: u8) -> usize
     ensures { λ r. ⌜ Put 1 (now (buf .entry)) at (b ∷ []) (now (buf .exit)) r ⌝ }
 {
@@ -19,7 +19,7 @@ pub fn put_byte(buf: &mut [u8], at: usize, b: u8) -> usize
     at + 1
 }
 
-// The place so many bytes further on.
+// The place n bytes after `at`.
 pub fn further(at: usize, n: usize) -> usize
     ensures { λ r. ⌜ Further at n r ⌝ }
 {

@@ -67,7 +67,7 @@ fn is_early(text: &[u8], settled: bool) -> bool {
     settled
 }
 
-// By a reader by value; a lump behind the end mark changes nothing.
+// By a reader by value; a lump after the end mark changes nothing.
 pub(crate) fn by_value(text: &[u8], first: usize, second: usize) -> Seen {
     let mut state = reader::fresh();
     state = reader::take(state, part(text, 0, first));

@@ -9,7 +9,7 @@ use Rattle.fits.specs.declared.gather.Ending.{Ending}
 use Rattle.fits.specs.declared.gather.Ending.the-variants.{Versions, Refused, Nothing}
 use Rattle.fits.specs.declared.gather.Gathered.{Gathered}
 
--- the shelf that so many lines make, entered one after the other
+-- the shelf that these lines make, entered one after the other
 pub record Standing (tables : List ℕ) (shelf : Shelf) (count : ℕ) : Type 0 where
   pub lines : List (List ℕ)
   pub shelved : Shelved lines tables shelf

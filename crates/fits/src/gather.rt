@@ -17,7 +17,7 @@ ghost use Rattle.fits.specs.Gather.{Gathering};
 // A longer line is cut, and taken for what is there of it.
 pub(crate) const LONGEST_LINE: usize = 65536;
 
-// How the register's lines end: at the empty line, with the versions behind it; at a line that is refused, counted from 1; or with the input.
+// How the register's lines end: at the empty line, with the versions after it; at a line that is refused, counted from 1; or with the input.
 pub enum Ending {
     Versions(Window),
     Refused(usize, Refusal),

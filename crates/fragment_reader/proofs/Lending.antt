@@ -29,7 +29,7 @@ unfolding lent readerIn
 lent-marked s new count e f = rw (← e) f
 
 module _ (s lump new : List ℕ) (count : ℕ) (ended : Bool) (e : count ≡ readerIn s .count) (f : ended ≡ readerIn s .ended) where
-  -- behind the end mark
+  -- after the end mark
   pub settled-behind : ended ≡ true → true ≡ settled (taken (readerIn s) lump)
   settled-behind t = rw (taken-behind (readerIn s) lump (sym f ∙ t)) (sym (ended-settled (readerIn s) (sym f ∙ t)))
 

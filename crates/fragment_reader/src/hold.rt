@@ -11,7 +11,7 @@ ghost use Rattle.fragment_reader.specs.Hold.{Holds, readerBy};
 
 pub(crate) const LONGEST: usize = 1024;
 
-// Puts a lump behind the bytes that came, as far as there is room, and says how many came: 1,025 stands for all that are too many.
+// Puts a lump after the bytes that came, as far as there is room, and says how many came: 1,025 stands for all that are too many.
 pub(crate) fn hold(held: &mut [u8], count: usize, lump: &[u8]) -> usize
     ensures { λ r. ⌜ Holds (now (held .entry)) count (now (lump .entry)) (now (held .exit)) r ⌝ }
 {

@@ -41,7 +41,7 @@ fn put_mark(state: &mut [u8], count: usize, ended: bool)
     state[1026] = ended as u8;
 }
 
-// A lump behind the text, and not behind the count and the mark.
+// A lump after the text, and not after the count and the mark.
 fn hold_in(state: &mut [u8], count: usize, lump: &[u8]) -> usize
     requires { ⌜ 1024 ≤ length (now state) ⌝ }
     ensures { λ r. ⌜ r ≡ counted (count + length (now (lump .entry))) ⌝ }

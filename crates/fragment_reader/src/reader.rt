@@ -16,7 +16,7 @@ pub fn fresh() -> Reader
     }
 }
 
-// A lump of any length, also none. Behind the end mark it changes nothing.
+// A lump of any length, also none. After the end mark it changes nothing.
 pub fn take(reader: Reader, lump: &[u8]) -> Reader
     ensures { λ r. ⌜ r ≡ taken reader (now (lump .entry)) ⌝ }
 {

@@ -74,7 +74,7 @@ reads s = given (versionOf (ascii s))
 abbrev refused : Answer
 refused = record { says = Given (Refused (refusal 8 1024)); version = noVersion }
 
--- the whole text at the end mark, and nothing from behind it or from before a reset; the 1,025th byte is refused at once
+-- the whole text at the end mark, and nothing from after it or from before a reset; the 1,025th byte is refused at once
 abbrev finished : List Point
 finished =
     point (text "4." ∷ text "" ∷ text "2" ∷ end ∷ []) (reads "4.2")

@@ -36,7 +36,7 @@ long-said : (r : Reader) → longest < r .count → saidBy r ≡ tooLong
 unfolding saidBy
 long-said r h = rw (lt-ltb longest (r .count) h)
 
--- what changes no reader behind its end mark, and leaves one too long that is
+-- what changes no reader after its end mark, and leaves one too long that is
 module _ (r q : Reader) (behind : r .ended ≡ true → q ≡ r) (more : longest < r .count → longest < q .count) (s : settled r ≡ true) where
   still-settled : settled q ≡ true
   still-settled =

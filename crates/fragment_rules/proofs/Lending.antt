@@ -53,7 +53,7 @@ pub in-sound : (s : List ℕ) → length s ≡ 1027 → Sound (readerIn s)
 unfolding readerIn
 in-sound s h = record { whole = omega (arith, length-take 1024 s); few = omega arith }
 
--- the bytes behind the text
+-- the bytes after the text
 tail-at : (k n : ℕ) (xs ys : List ℕ) → length xs ≡ k → getD (xs ++ ys) (k + n) 0 ≡ getD ys n 0
 tail-at k n xs ys e = rw (← e) (getD-append-add xs ys n 0)
 

@@ -32,7 +32,7 @@ pub same-reader : {h k : List ℕ} {m n : ℕ} {b c : Bool} → h ≡ k → m �
     → _≡_ {A = Reader} (record { held = h; count = m; ended = b }) (record { held = k; count = n; ended = c })
 same-reader e f g = rw (e, f, g)
 
--- a lump goes where the text before it ends; behind the last place it is not held
+-- a lump goes where the text before it ends; after the last place it is not held
 held-on : (z t l : List ℕ) → length z ≤ longest → sets (sets z 0 t) (counted (length t)) l ≡ sets z 0 (t ++ l)
 held-on z t l h =
     let size = length-sets z 0 t in

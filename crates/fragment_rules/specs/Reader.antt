@@ -24,7 +24,7 @@ fresh = record { held = replicate 1024 0; count = 0; ended = false }
 abbrev pub counted : ℕ → ℕ
 counted n = min n (longest + 1)
 
--- a lump goes behind what is held, as far as there is room
+-- a lump goes after what is held, as far as there is room
 abbrev pub added : Reader → List ℕ → Reader
 added r lump = record {
   held = sets (r .held) (r .count) lump;
@@ -32,7 +32,7 @@ added r lump = record {
   ended = false;
 }
 
--- nothing is taken behind the end mark
+-- nothing is taken after the end mark
 unfoldable pub taken : Reader → List ℕ → Reader
 taken r lump = cond (r .ended) r (added r lump)
 

@@ -52,7 +52,7 @@ pub rest-goes-on : pastCut some (window 5 10 true false) ≡ window 10 10 true f
 unfolding pastCut indexOf indexAfter
 rest-goes-on = refl
 
--- the lines of a whole text: an empty one counts, and a last one without its line feed; behind the last line feed there is none
+-- the lines of a whole text: an empty one counts, and a last one without its line feed; after the last line feed there is none
 pub three-lines : linesOf some ≡ ascii "1.0" ∷ [] ∷ ascii "2.0.5" ∷ []
 unfolding linesOf
 three-lines = refl

@@ -1,4 +1,4 @@
--- Reading on behind what is held.
+-- Reading on after what is held.
 -- Assumes nothing.
 use mathlib.Core.Path.{_≡_, sym, ap, _∙_}
 use mathlib.Core.List.{List}

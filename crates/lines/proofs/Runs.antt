@@ -19,7 +19,7 @@ use Rattle.lines.proofs.Anchors.{window}
 use Rattle.lines.proofs.Fronts.{front-whole, front-cut, front-none}
 use Rattle.lines.proofs.Texts.{afterFeed, whole-line, feed-inside, feed-behind, open-line, feed-within, part-later}
 
--- what is still to be told of a text: behind a line that was cut, what follows its line feed
+-- what is still to be told of a text: after a line that was cut, what follows its line feed
 abbrev pending : Bool → List ℕ → List ℕ
 pending true text = afterFeed text
 pending false text = text
@@ -27,7 +27,7 @@ pending false text = text
 abbrev toTell : List ℕ → Window → List ℕ → List ℕ
 toTell buffer w coming = pending (w .cut) (held buffer w ++ coming)
 
--- dropping the rest of a cut line leaves what is to be told, and an open window behind it, or none
+-- dropping the rest of a cut line leaves what is to be told, and an open window after it, or none
 record Past (buffer : List ℕ) (w : Window) (coming : List ℕ) (v : Window) : Type 0 where
   same : toTell buffer v coming ≡ toTell buffer w coming
   empty : v .cut ≡ true → held buffer v ≡ []
@@ -104,7 +104,7 @@ not-cut : (cut : Bool) (text : List ℕ) → (cut ≡ true → text ≡ []) → 
 not-cut true text empty some = let none : 0 < length {A = ℕ} [] = rw (empty refl) at some in absurd (omega arith)
 not-cut false text empty some = refl
 
--- one line is told of what is to be told, and the window is the one behind it
+-- one line is told of what is to be told, and the window is the one after it
 record Tells (longest : ℕ) (buffer : List ℕ) (v : Window) (coming shown : List ℕ) (next : Window) : Type 0 where
   line : List ℕ
   lines : linesOf (toTell buffer v coming) ≡ line ∷ linesOf (toTell buffer next coming)
@@ -167,7 +167,7 @@ at-end false e = cc
 abbrev found : ℕ → ℕ → Window → Next
 found start end w = record { found = Line start end; window = w }
 
--- a line is told of the window v, and the others of the window x behind it
+-- a line is told of the window v, and the others of the window x after it
 told-by : (longest : ℕ) (buffer : List ℕ) (v : Window) (coming : List ℕ) (lines : List (List ℕ)) (start end from to : ℕ) (x next : Window) →
     found start end next ≡ found from to x →
     Tells longest buffer v coming (textOf buffer (Line start end)) next → AllShown longest (linesOf (toTell buffer x coming)) lines →

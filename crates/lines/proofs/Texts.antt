@@ -12,7 +12,7 @@ use Rattle.bytes.specs.Bytes.{indexAfter, indexOf}
 use Rattle.lines.specs.Window.{lineFeed, lineLength}
 use Rattle.lines.specs.Run.{joined, linesOf}
 
--- what stands behind the first line feed
+-- what stands after the first line feed
 abbrev pub afterFeed : List ℕ → List ℕ
 afterFeed [] = []
 afterFeed (b ∷ text) = cond (eqb b lineFeed) text (afterFeed text)

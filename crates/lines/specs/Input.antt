@@ -8,7 +8,7 @@ use Rattle.lines.specs.declared.window.Window.{Window}
 use Rattle.lines.specs.declared.window.Next.{Next}
 use Rattle.lines.specs.Window.{held, front}
 
--- the part from start to end stands at the front, and all behind that is as it was
+-- the part from start to end stands at the front, and all after that is as it was
 pub record Slid (old : List ℕ) (start end : ℕ) (new : List ℕ) (r : ℕ) : Type 0 where
   pub count : r ≡ length (take (end - start) (drop start old))
   pub moved : new ≡ take (end - start) (drop start old) ++ drop r old
@@ -19,7 +19,7 @@ pub record Behind (old : List ℕ) (at : ℕ) (new : List ℕ) (r : ℕ) : Type 
   pub onward : at ≤ r
   pub within : r ≤ length new
 
--- what was held stands at the front of the buffer, and what came behind it; if nothing came the input has ended
+-- what was held stands at the front of the buffer, and what came after it; if nothing came the input has ended
 pub record ReadOn (old : List ℕ) (w : Window) (new : List ℕ) (r : Window) : Type 0 where
   pub first : r .start ≡ 0
   pub kept : take (length (held old w)) new ≡ held old w

@@ -35,7 +35,7 @@ abbrev pub limit : Bool → ℕ → ℕ → ℕ
 limit true longest size = 0
 limit false longest size = min longest (size - 1)
 
--- the line of that length at the front, and the window that begins so many bytes later
+-- the line of that length at the front, and the window that begins `behind` bytes later
 abbrev pub told : Window → ℕ → ℕ → Bool → Next
 told w len behind cut =
     record {
@@ -54,7 +54,7 @@ frontBy w len all most = cond (ltb len all) (told w len (len + 1) false) (cond (
 unfoldable pub front : List ℕ → Window → ℕ → Next
 front buffer w longest = frontBy w (lineLength (held buffer w)) (length (held buffer w)) (limit (w .done) longest (length buffer))
 
--- the window behind the rest of a line that was cut, by the length of that rest and of all that is held
+-- the window after the rest of a line that was cut, by the length of that rest and of all that is held
 abbrev pub pastRest : Window → ℕ → ℕ → Window
 pastRest w len all =
     cond

@@ -32,7 +32,7 @@ fn slide(buffer: &mut [u8], start: usize, end: usize) -> usize
     count
 }
 
-// The place behind what one read brings, which is the same place at the end of the input.
+// The place after what one read brings, which is the same place at the end of the input.
 fn read_behind(buffer: &mut [u8], at: usize) -> usize
     requires { ⌜ at ≤ length (now buffer) ⌝ }
     ensures { λ r. ⌜ Behind (now (buffer .entry)) at (now (buffer .exit)) r ⌝ }
@@ -42,7 +42,7 @@ fn read_behind(buffer: &mut [u8], at: usize) -> usize
     at + n
 }
 
-// Moves what is held to the front of the buffer and reads on behind it. A read that brings nothing is the end of the input.
+// Moves what is held to the front of the buffer and reads on after it. A read that brings nothing is the end of the input.
 pub fn read_on(buffer: &mut [u8], window: Window) -> Window
     ensures { λ r. ⌜ ReadOn (now (buffer .entry)) window (now (buffer .exit)) r ⌝ }
 {

@@ -1,4 +1,4 @@
-// What was read and not yet told lies in a window of a buffer: where its first line stands, and the window behind that line.
+// What was read and not yet told lies in a window of a buffer: where its first line stands, and the window after that line.
 use bytes::scan::find;
 use chars::place::part;
 ghost use mathlib.Core.Path.{_≡_};
@@ -14,7 +14,7 @@ pub struct Window {
     pub done: bool,
 }
 
-// A line's first place and the place behind its last byte; or that more has to be read; or that there is no further line.
+// A line's first place and the place after its last byte; or that more has to be read; or that there is no further line.
 pub enum Found {
     Line(usize, usize),
     More,
@@ -58,7 +58,7 @@ fn longest_open(done: bool, longest: usize, size: usize) -> usize
     if size == 0 { 0 } else { size - 1 }
 }
 
-// The line of that length at the front, and the window that begins so many bytes later.
+// The line of that length at the front, and the window that begins `behind` bytes later.
 fn tell(window: Window, len: usize, behind: usize, cut: bool) -> Next
     requires { ⌜ (window .start + len < 2 ^ 64) × (window .start + behind < 2 ^ 64) ⌝ }
     ensures { λ r. ⌜ r ≡ told window len behind cut ⌝ }

@@ -7,7 +7,7 @@ use lib.Dec.{eqb}
 use lib.ListN.{length}
 use Rattle.chars.specs.Class.{classOf, blank}
 
--- a byte goes where it is a blank and nothing is left behind it; n bytes are
+-- a byte goes where it is a blank and nothing is left after it; n bytes are
 abbrev pub kept : Bool → ℕ → ℕ
 kept isBlank n = cond isBlank (cond (eqb n 0) 0 (suc n)) (suc n)
 

@@ -65,7 +65,7 @@ answer q gt gt e f = refl
 abbrev between : End → End → Ordering
 between a b = comparePublic (valueOf [] (a .version)) (valueOf [] (b .version))
 
--- what stands behind the levels in the comparison
+-- what stands after the levels in the comparison
 abbrev inner : Place → Place → Ordering
 inner x y = also (option comparePublic (value x) (value y)) (compare (side x) (side y))
 

@@ -34,7 +34,7 @@ Holds top = Unit {0}
 Holds (before v) = Writable v
 Holds (after v) = Writable v
 
--- numbers of 64 bits: one at least, and so many at most
+-- numbers of 64 bits: one at least, and `most` at most
 record Numbers (most : ℕ) (l : List ℕ) : Type 0 where
   fits : All Fits l
   some : 1 ≤ length l

@@ -8,7 +8,7 @@ use Rattle.list_clauses.specs.declared.operator.Operator.the-variants.{Compatib
 use Rattle.list_clauses.specs.declared.clause.Clause.{Clause}
 use Rattle.list_accepting.specs.Accept.{clauseValue}
 
--- a version that can be written, without a label; behind `~=` it has two release numbers
+-- a version that can be written, without a label; after `~=` it has two release numbers
 pub record Sound (c : Clause) : Type 0 where
   pub local : c .version .local .len ≡ 0
   pub some : 1 ≤ c .version .release .len

@@ -1,4 +1,4 @@
--- Rows one behind the other: each is found again at its number, and two more are added behind them.
+-- Rows one after the other: each is found again at its number, and two more are added after them.
 -- Assumes nothing.
 use mathlib.Core.Path.{_≡_, refl, _∙_, ap}
 use mathlib.Core.List.{List, [], _∷_, _++_, append-assoc}

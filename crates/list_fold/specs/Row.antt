@@ -38,7 +38,7 @@ pub record PlaceRow (p : Place) (r : List ℕ) : Type 0 where
   pub is : r ≡ keyRow p
   pub short : Short p
 
--- rows number 0, 1, .. one behind the other
+-- rows number 0, 1, .. one after the other
 unfoldable pub rowsTo : (ℕ → Place) → ℕ → List ℕ
 rowsTo f zero = []
 rowsTo f (suc count) = rowsTo f count ++ keyRow (f count)

@@ -1,4 +1,4 @@
-// The rows of all ends of a list, one behind the other, and the order of ends by their rows.
+// The rows of all ends of a list, one after the other, and the order of ends by their rows.
 use order::Order;
 use order::compare_numbers;
 ghost use mathlib.Core.Path.{_≡_};

@@ -1,4 +1,4 @@
-// The lookup program: a list on the first line of standard input, a version on each line behind it, and an answer line to each version.
+// The lookup program: a list on the first line of standard input, a version on each line after it, and an answer line to each version.
 mod answer;
 
 use answer::LONGEST_ANSWER;

@@ -1,4 +1,4 @@
--- The ranges of a table ascend and stay apart: clipping keeps that, and so does putting what lies above a hole behind what lies below it.
+-- The ranges of a table ascend and stay apart: clipping keeps that, and so does putting what lies above a hole after what lies below it.
 -- Assumes nothing.
 use mathlib.Core.Path.{_≡_}
 use mathlib.Core.List.{List, [], _∷_, _++_}

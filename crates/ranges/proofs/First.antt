@@ -30,7 +30,7 @@ module _ {P : Type 0} (le : P → P → Bool) where
     lowers-outside : All (Outside r) ls
     uppers-outside : All (Outside r) us
 
-  -- more ends behind change no first one
+  -- more ends after change no first one
   first-append : (e x : P) (l m : List P) → first le e l ≡ some x → first le e (l ++ m) ≡ some x
   first-append e x [] m h = cc
   first-append e x (y ∷ l) m h =

@@ -1,4 +1,4 @@
--- The first n elements of an array of 65: the one at i, and those behind it.
+-- The first n elements of an array of 65: the one at i, and those after it.
 -- Assumes nothing.
 use mathlib.Core.Path.{_≡_, refl, sym, _∙_, ap}
 use mathlib.Core.List.{List, [], _∷_, map}

@@ -1,4 +1,4 @@
--- Entries in an array: what is held is read again, one more goes behind the others, and what lies behind the first 65 is not held.
+-- Entries in an array: what is held is read again, one more goes after the others, and what lies after the first 65 is not held.
 -- Assumes nothing.
 use mathlib.Core.Path.{_≡_, sym, _∙_}
 use mathlib.Core.List.{List, [], _∷_, _++_, append-assoc}
@@ -39,7 +39,7 @@ unfolding heldOf
 same-first es fs h k e =
     same (take-append-le 65 es (replicate 65 blank) h ∙ e ∙ sym (take-append-le 65 fs (replicate 65 blank) k)) (rw e)
 
--- of a list that is not empty, 64 blanks behind it are as good as 65
+-- of a list that is not empty, 64 blanks after it are as good as 65
 one-blank-less : (es : List Entry) → 0 < length es → take 65 (es ++ replicate 64 blank) ≡ take 65 (es ++ replicate 65 blank)
 one-blank-less es h =
     let size = length-append es (replicate 64 blank) in
@@ -54,7 +54,7 @@ stored es e h =
     ∙ rw (set-append-seam es blank (replicate 64 blank) e, ← append-snoc es e (replicate 64 blank))
     (one-blank-less (es ++ (e ∷ [])) (omega (arith, length-append es (e ∷ []))))
 
--- one more behind the others
+-- one more after the others
 pub one-more : (es : List Entry) (e : Entry) → withEntry (heldOf es) e ≡ heldOf (es ++ (e ∷ []))
 unfolding withEntry heldOf
 one-more es e =

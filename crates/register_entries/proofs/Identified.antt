@@ -33,7 +33,7 @@ module _ (id : ℕ) (l : List Entry) (size : length l ≡ 65) (n : ℕ) (few : n
       let none : has id (drop i (take n l)) ≡ false = rw (first-none l size n few i h) in
       sym none ∙ same
 
--- `has_id`: behind the 65th there is none
+-- `has_id`: after the 65th there is none
 pub has-capped : (id : ℕ) (l : List Entry) (n most : ℕ) (r : Bool) → length l ≡ 65 → most ≡ min n 65 → r ≡ has id (take most l) → r ≡ has id (take n l)
 has-capped id l n most r size e f =
     elim (decLt n 65) [

@@ -1,6 +1,6 @@
 -- A local array is lent in part as a `&` slice, `&a[..k]`, and is room again when the loan is over. For a walk by hand; R is the type of the elements, any that has one machine value.
 --     apart        the local's cell, and what the array owns, are its elements side by side, and there are n
---     lends-part   of those the first k are lent for κ: what a `&κ [T]` on them owns, the lender's part of that, and the elements behind them
+--     lends-part   of those the first k are lent for κ: what a `&κ [T]` on them owns, the lender's part of that, and the elements after them
 --     part-back    κ is over: the local is room again
 --     field-array  an array of a declared type, as a field of a struct owns it, is what the array owns by itself: the field has a tuple for each element
 -- Assumes nothing.
@@ -56,7 +56,7 @@ module _ {M : Type 1} (𝓤 : URA M) (H : Heap 𝓤) (A : Atoms 𝓤) (W : Given
       use1 W (‵ (fat fullShare arrayTy b 0 (arrayVal us))) (W .laws .raw-at fullShare arrayTy b 0 (arrayVal us)) $ by ! (W .laws .at-room arrayTy b 0 (arrayVal us)))))
 
   module _ (k : ℕ) (κ : Lft) (l : length xs ≡ n) where
-    -- the elements that are lent, and those behind them
+    -- the elements that are lent, and those after them
     abbrev pub Part : Fml
     Part = arr-parts (shares R) (length (take k xs)) .part fullShare (take k xs) b 0
 

@@ -13,7 +13,7 @@ entryOf id start length = record { id = id; start = start; length = length }
 abbrev pub blank : Entry
 blank = entryOf 0 0 0
 
--- a list's first 65, with blanks behind them, and how many they are
+-- a list's first 65, with blanks after them, and how many they are
 unfoldable pub heldOf : List Entry → Held
 heldOf es = record { list = take 65 (es ++ replicate 65 blank); count = length (take 65 es) }
 
@@ -21,7 +21,7 @@ heldOf es = record { list = take 65 (es ++ replicate 65 blank); count = length (
 unfoldable pub entriesIn : Held → List Entry
 entriesIn h = take (h .count) (h .list)
 
--- one more behind the others, while there is room
+-- one more after the others, while there is room
 unfoldable pub withEntry : Held → Entry → Held
 withEntry held e = cond (ltb (held .count) 65) (record { list = set (held .list) (held .count) e; count = held .count + 1 }) held
 

@@ -4,7 +4,7 @@ ghost use mathlib.Core.Path.{_≡_};
 ghost use mathlib.Core.List.{[]};
 ghost use Rattle.register_entries.specs.Held.{heldOf, withEntry};
 
-// The first `count` of the list; those behind them are blank.
+// The first `count` of the list; those after them are blank.
 pub struct Held {
     pub list: [Entry; 65],
     pub count: usize,
@@ -23,7 +23,7 @@ pub fn none_held() -> Held
     }
 }
 
-// One more entry behind the others, while there is room.
+// One more entry after the others, while there is room.
 pub fn with_entry(held: Held, entry: Entry) -> Held
     ensures { λ r. ⌜ r ≡ withEntry held entry ⌝ }
 {

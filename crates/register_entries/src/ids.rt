@@ -21,7 +21,7 @@ fn has_first(list: [Entry; 65], count: usize, id: u16) -> bool
     false
 }
 
-// Whether one of the first so many entries has an identifier.
+// Whether one of the first `count` entries of `list` has the identifier `id`.
 pub fn has_id(list: [Entry; 65], count: usize, id: u16) -> bool
     ensures { λ r. ⌜ r ≡ has id (take count list) ⌝ }
 {

@@ -39,7 +39,7 @@ unless-refused x otherwise f = rw (ne-eqb (x .number) 0 f)
 unless-none : (x : Refusal) (otherwise : Fit) → x .number ≡ 0 → unless x otherwise ≡ otherwise
 unless-none x otherwise e = rw (eq-eqb (x .number) 0 e)
 
--- the search's answer, with the version's verdict behind it
+-- the search's answer, with the version's verdict after it
 judge-found : (verdict : Verdict) (x : Refusal) (lowest : Lowest) → judged verdict (foundUnless x lowest) ≡ unless x (answered verdict lowest)
 judge-found verdict x lowest = go (eqb (x .number) 0)
   where

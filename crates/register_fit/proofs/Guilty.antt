@@ -31,7 +31,7 @@ outside-end size start length h =
     (λ e. lt-ltb size (start + length) (omega (arith, ltb-true (size - start) length e)))
     (λ e. lt-ltb (size - start) length (omega (arith, ltb-true size (start + length) e)))
 
--- `table_in`: what is to be taken behind the start, as far as the buffer goes
+-- `table_in`: what is to be taken after the start, as far as the buffer goes
 pub part-behind : (s behind r : List ℕ) (start count : ℕ) → behind ≡ take (length s - start) (drop start s) → r ≡ take (count - 0) (drop 0 behind) →
     r ≡ take count (drop start s)
 part-behind s behind r start count e f =

@@ -31,14 +31,14 @@ met (Table x) e i lowest = Bad (refusal (x .number) i)
 abbrev pub foundUnless : Refusal → Lowest → Searched
 foundUnless x lowest = cond (eqb (x .number) 0) (Found lowest) (Bad x)
 
--- so many entries of a register from an index on, which are these, with the two lowest so far
+-- the entries of a register from an index on, which are these, with the two lowest so far
 abbrev pub searchedFrom : List ℕ → List ℕ → List Entry → ℕ → ℕ → List Entry → Lowest → Searched
 searchedFrom buffer text es room i rest lowest = foundUnless (firstFrom (tableGuilt buffer es) room i) (lowestFrom lowest (fitting buffer text rest))
 
 abbrev pub searchedIn : List ℕ → List ℕ → List Entry → Searched
 searchedIn buffer text es = searchedFrom buffer text es (length es) 0 es Nothing
 
--- the version's verdict, behind the register's
+-- the version's verdict, after the register's
 abbrev pub judged : Verdict → Searched → Fit
 judged verdict (Bad x) = Register x
 judged verdict (Found lowest) = answered verdict lowest

@@ -12,7 +12,7 @@ ghost use Rattle.register_entries.specs.Held.{entriesIn};
 ghost use Rattle.register_rules.specs.Fit.{fitOf};
 ghost use Rattle.register_fit.specs.Search.{judged};
 
-// The version's verdict comes behind what the search says of the tables.
+// The version's verdict comes after what the search says of the tables.
 fn judge(verdict: Verdict, searched: Searched) -> Fit
     ensures { λ r. ⌜ r ≡ judged verdict searched ⌝ }
 {

@@ -27,7 +27,7 @@ fn number_if(broken: bool, number: u8) -> u8
     if broken { number } else { 0 }
 }
 
-// The number of a rule that an entry breaks, behind the first so many of the list; else 0.
+// The number of the rule that `entry` breaks, after the first `count` of `list`; else 0.
 fn guilt_of(rule: Rule, buffer: &[u8], list: [Entry; 65], count: usize, entry: Entry) -> u8
     requires { ⌜ count ≤ 65 ⌝ }
     ensures { λ r. ⌜ r ≡ guiltOf rule (now (buffer .entry)) (take count list) entry ⌝ }

@@ -46,7 +46,7 @@ placed-behind shelf id n written held e f = rw (e, f)
 pub placed-refused : (shelf : Shelf) (id : ℕ) (written : Measured) (x : Refusal) → written ≡ Refused x → record { refusal = x; shelf = shelf } ≡ placed shelf id written
 placed-refused shelf id written x e = rw e
 
--- what a list's answer ends at, in a buffer of so many bytes
+-- what a list's answer ends at, in a buffer of `size` bytes
 ends-if : (used size : ℕ) (text : List ℕ) (short : Bool) → ltb size (length text) ≡ short → endBehind used (answerIf short text) ≤ used + size
 ends-if used size text true e = omega arith
 ends-if used size text false e = omega (arith, ltb-false size (length text) e)

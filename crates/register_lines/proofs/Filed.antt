@@ -1,4 +1,4 @@
--- Lines and the entries that came of them: each entry's table lies in the buffer, and stays there whatever is written behind it.
+-- Lines and the entries that came of them: each entry's table lies in the buffer, and stays there whatever is written after it.
 -- Assumes nothing.
 use mathlib.Core.Path.{_≡_, refl, sym, _∙_, ap}
 use mathlib.Core.List.{List, [], _∷_, _++_}
@@ -60,7 +60,7 @@ module _ (used more : ℕ) (tables new : List ℕ) (same : take used new ≡ tak
         inside = omega (arith, f .inside);
       }
 
-  -- what is written behind the tables leaves them as they were
+  -- what is written after the tables leaves them as they were
   pub all-kept : {lines : List (List ℕ)} {es : List Entry} → AllFiled used tables lines es → AllFiled more new lines es
   all-kept none = none
   all-kept (also f fs) = also (one-kept f) (all-kept fs)

@@ -49,7 +49,7 @@ pub record ListPut (old : List ℕ) (used : ℕ) (list new : List ℕ) (r : Meas
 abbrev pub refusedAs : Refusal → Shelf → Entered
 refusedAs x shelf = record { refusal = x; shelf = shelf }
 
--- the shelf behind a line whose table was written at its end
+-- the shelf after a line whose table was written at its end
 abbrev pub placed : Shelf → ℕ → Measured → Entered
 placed shelf id (Length n) =
     record {

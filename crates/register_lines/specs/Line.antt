@@ -22,7 +22,7 @@ pub record SpaceAt (line : List ℕ) (r : ℕ) : Type 0 where
   pub is : r ≡ spaceAt line
   pub within : r ≤ length line
 
--- a number of so many digits in a text of that size: an identifier if it is the whole text, and 16 bits can say it
+-- a number of `digits` digits in a text of `size` bytes: an identifier if it is the whole text, and 16 bits can say it
 abbrev pub idWhere : ℕ → ℕ → ℕ → ℕ
 idWhere number digits size = cond (eqb digits size) (cond (ltb number 65536) number 0) 0
 
@@ -39,6 +39,6 @@ idSaid text = idBy (length text) (leadingOf text)
 unfoldable pub idOf : List ℕ → ℕ
 idOf line = cond (ltb (spaceAt line) (length line)) (idSaid (take (spaceAt line) line)) 0
 
--- the list of a line, which stands behind its first blank
+-- the list of a line, which stands after its first blank
 unfoldable pub listIn : List ℕ → List ℕ
 listIn line = drop (spaceAt line + 1) line

@@ -34,7 +34,7 @@ abbrev pub listRefusal : Listing → Refusal
 listRefusal (refused number place) = refusal number place
 listRefusal (clauses cs) = refusal 0 0
 
--- why a line behind those lines is refused: there are as many as may be; it has no identifier; one of them has the same; its list's own
+-- why a line after those lines is refused: there are as many as may be; it has no identifier; one of them has the same; its list's own
 -- refusal. Number 0: it is not
 abbrev pub refusalBehind : List (List ℕ) → List ℕ → Refusal
 refusalBehind lines line =

@@ -45,7 +45,7 @@ pub fn id_of(line: &[u8]) -> u16
     0
 }
 
-// What stands behind the first blank, which is nothing where there is none.
+// What stands after the first blank, which is nothing where there is none.
 pub fn list_of(line: &[u8]) -> &[u8]
     ensures { λ r. ⌜ now r ≡ listIn (now (line .entry)) ⌝ }
 {

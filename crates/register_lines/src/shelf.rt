@@ -65,7 +65,7 @@ fn line_refusal(held: Held, id: u16) -> Refusal
     }
 }
 
-// Writes the table of a list from a place of the buffer on. Behind the buffer's end there is no room for any.
+// Writes the table of a list from a place of the buffer on. After the buffer's end there is no room for any.
 fn put_list(tables: &mut [u8], used: usize, list: &[u8]) -> Measured
     ensures { λ r. ⌜ ListPut (now (tables .entry)) used (now (list .entry)) (now (tables .exit)) r ⌝ }
 {
@@ -76,7 +76,7 @@ fn put_list(tables: &mut [u8], used: usize, list: &[u8]) -> Measured
     compile(list, &mut tables[used..])
 }
 
-// The shelf behind a line whose list was put at its end, or refused.
+// The shelf after a line whose list was put at its end, or refused.
 fn place(shelf: Shelf, id: u16, written: Measured) -> Entered
     requires { ⌜ endBehind (shelf .used) written < 2 ^ 64 ⌝ }
     ensures { λ r. ⌜ r ≡ placed shelf id written ⌝ }

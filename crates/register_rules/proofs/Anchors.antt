@@ -30,7 +30,7 @@ unfolding computed fitOf fitting lowestFrom has firstFrom looked tableOf rangesF
     compareKey valueOf listed
 everything es buffer text = fitOf es buffer text
 
--- the tables of every version, of none, and of those from 4.2 on, one behind the other: 14, 6 and 17 bytes
+-- the tables of every version, of none, and of those from 4.2 on, one after the other: 14, 6 and 17 bytes
 abbrev buffer : List ℕ
 buffer =
     (2 ∷ 0 ∷ 1 ∷ 0 ∷ 1 ∷ 0 ∷ 0 ∷ 0 ∷ 2 ∷ 0 ∷ 0 ∷ 0 ∷ 5 ∷ 0 ∷ []) ++
@@ -50,7 +50,7 @@ empty id = entry id 14 6
 abbrev new : ℕ → Entry
 new id = entry id 20 17
 
--- with a table whose last byte lies behind the buffer, and with one that lacks its last byte
+-- with a table whose last byte lies after the buffer, and with one that lacks its last byte
 abbrev beyond : ℕ → Entry
 beyond id = entry id 20 18
 
@@ -115,7 +115,7 @@ pub by-index-hold : Holds by-index
 unfolding everything
 by-index-hold = refl
 
--- where a table ends: with the buffer, a byte behind it, and an empty one at the buffer's end and behind it
+-- where a table ends: with the buffer, a byte after it, and an empty one at the buffer's end and after it
 abbrev by-end : List Point
 by-end =
     point (new 1 ∷ []) "4.2" (By (One 1))

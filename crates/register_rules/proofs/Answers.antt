@@ -90,7 +90,7 @@ well-formed-all es buffer n f i high =
     ]
 
 module _ (es : List Entry) (buffer text : List ℕ) where
-  -- what is said behind each rule
+  -- what is said after each rule
   abbrev last : Fit
   last = answered (versionOf text .verdict) (lowestFrom Nothing (fitting buffer text es))
 

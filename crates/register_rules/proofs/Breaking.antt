@@ -91,7 +91,7 @@ module _ (buffer : List ℕ) (es : List Entry) (i : ℕ) (inside : i < length es
   pub taken-number : Repeats es i → guiltBy Taken buffer es i ≡ 32
   taken-number r = number-having (has (idAt es i) (take i es)) (having (idAt es i) (take i es)) r
 
--- a table that ends behind the buffer's end
+-- a table that ends after the buffer's end
 pub outside-ruled : (buffer : List ℕ) (es : List Entry) (i : ℕ) → Ruled (length buffer < endAt es i) (guiltBy Outside buffer es i)
 outside-ruled buffer es i =
     elim (decLt (length buffer) (endAt es i)) [

@@ -61,7 +61,7 @@ pub data Fault (es : List Entry) (buffer : List ℕ) : ℕ → ℕ → Type 0 wh
   zero : (i : ℕ) → length es ≤ 64 → i < length es → idAt es i ≡ 0 → NoZero es i → Fault es buffer 31 i
   -- the identifier of an earlier entry, j
   taken : (i j : ℕ) → length es ≤ 64 → NoZero es (length es) → i < length es → j < i → idAt es j ≡ idAt es i → Differ es i → Fault es buffer 32 i
-  -- the table ends behind the buffer's end
+  -- the table ends after the buffer's end
   outside : (i : ℕ) → length es ≤ 64 → NoZero es (length es) → Differ es (length es) → i < length es → length buffer < endAt es i →
       Within es buffer i → Fault es buffer 33 i
   -- the table's own refusal, at the entry's index

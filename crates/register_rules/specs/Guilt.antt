@@ -19,7 +19,7 @@ entryAt es i = getD es i blank
 abbrev pub tableIn : List ℕ → Entry → List ℕ
 tableIn buffer e = take (e .length) (drop (e .start) buffer)
 
--- the rules on an entry, behind those before it, in their order: its identifier is 0; an earlier entry has it; the table does not end within the buffer
+-- the rules on an entry, after those before it, in their order: its identifier is 0; an earlier entry has it; the table does not end within the buffer
 abbrev pub guiltOf : Rule → List ℕ → List Entry → Entry → ℕ
 guiltOf Zero buffer earlier e = cond (eqb (e .id) 0) 31 0
 guiltOf Taken buffer earlier e = cond (has (e .id) earlier) 32 0
@@ -36,7 +36,7 @@ tableNumber (ranges T) = 0
 abbrev pub tableGuilt : List ℕ → List Entry → ℕ → ℕ
 tableGuilt buffer es i = tableNumber (tableOf (tableIn buffer (entryAt es i)))
 
--- the refusal at the lowest guilty index, of so many from an index on; number 0 where none is guilty
+-- the refusal at the lowest guilty index, from an index on; number 0 where none is guilty
 unfoldable pub firstFrom : (ℕ → ℕ) → ℕ → ℕ → Refusal
 firstFrom guilt zero i = refusal 0 0
 firstFrom guilt (suc room) i = cond (eqb (guilt i) 0) (firstFrom guilt room (suc i)) (refusal (guilt i) i)

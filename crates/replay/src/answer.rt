@@ -34,7 +34,7 @@ ghost use lib.ListN.{length};
 
 pub(crate) const LONGEST_LINE: usize = 65536;
 
-// Behind the word `fragments` and a blank.
+// After the word `fragments` and a blank.
 const FIRST_EVENT: usize = 10;
 
 // The longest buffer that a question may lend.
@@ -85,7 +85,7 @@ fn is_register(line: &[u8]) -> bool {
     same(word(line, 0), b"register")
 }
 
-// The version stands behind the tables in the buffer.
+// The version stands after the tables in the buffer.
 fn of_register(line: &[u8], texts: &mut [u8], out: &mut [u8]) -> usize {
     let listed = read_entries(word(line, 1));
     if !listed.said {
@@ -146,7 +146,7 @@ fn of_word(text: &[u8], out: &mut [u8]) -> usize {
     }
 }
 
-// The second text stands behind the first in the buffer.
+// The second text stands after the first in the buffer.
 fn of_two_texts(
     asked: OfTexts,
     word: &[u8],

@@ -49,7 +49,7 @@ fn read_entry(word: &[u8]) -> EntrySaid {
     })
 }
 
-// Entries behind the 65th are read as well, and not held.
+// Entries after the 65th are read as well, and not held.
 pub(crate) fn read_entries(word: &[u8]) -> Listed {
     let mut held = none_held();
     if same(word, b"-") {

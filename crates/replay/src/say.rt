@@ -26,7 +26,7 @@ pub(crate) fn put_refusal(out: &mut [u8], at: usize, name: &[u8], refusal: Refus
     put_number(out, place, refusal.place as u64)
 }
 
-// Each word of the fields stands behind its blank.
+// Each word of the fields stands after its blank.
 fn put_release_word(out: &mut [u8], at: usize, release: Release) -> usize {
     let word = put_byte(out, at, b' ');
     put_release(out, word, release)
@@ -101,7 +101,7 @@ fn put_back(out: &mut [u8], at: usize, text: &[u8], version: Version) -> usize {
     put_local_word(out, next, text, local)
 }
 
-// What was read, behind `ok` or `ok*`.
+// What was read, after `ok` or `ok*`.
 pub(crate) fn put_reading(
     out: &mut [u8],
     text: &[u8],

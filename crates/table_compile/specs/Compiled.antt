@@ -1,4 +1,4 @@
--- What compiling a list answers and leaves behind: the list's refusal first, and 11 last.
+-- What compiling a list answers and leaves after: the list's refusal first, and 11 last.
 use mathlib.Core.Path.{_≡_}
 use mathlib.Core.List.{List}
 use Prim.Native.Nat.{ℕ}

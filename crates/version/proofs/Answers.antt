@@ -28,7 +28,7 @@ number-cases Absent = no-number refl
 number-cases (Read n next) = a-number n next refl
 number-cases TooBig = big-number refl
 
--- a pre-release's step and that of a part without kinds: what was read and the place behind it, or where a number is too big
+-- a pre-release's step and that of a part without kinds: what was read and the place after it, or where a number is too big
 pub data StepCases {A X : Type 0} (read : A → ℕ → X) (big : ℕ → X) (x : X) : Type 0 where
   a-part : (part : A) (next : ℕ) → x ≡ read part next → StepCases read big x
   big-part : (d : ℕ) → x ≡ big d → StepCases read big x

@@ -71,7 +71,7 @@ module _ (wildcards : Bool) (s : List ℕ) (short : length s ≤ longest) where
         | no some ↦ more some
       ]
 
-  -- there is room for so many segments
+  -- there is room for `room` segments
   from-segment : (room at count : ℕ) → count + room ≡ 16 → Segmented s at count → Judged wildcards s
   from-segment zero at count e g =
       let full : count ≡ 16 = omega arith in
@@ -130,7 +130,7 @@ module _ (wildcards : Bool) (s : List ℕ) (short : length s ≤ longest) where
         | fails none ↦ from-pre at (record { released = r; no-star = none })
       ]
 
-  -- a number may stand behind a dot at `at`: where it does, `more` says what comes of it
+  -- a number may stand after a dot at `at`: where it does, `more` says what comes of it
   from-dot : (at count : ℕ) → Listed s at count → ((n next : ℕ) → markedNumber (code ".") s at ≡ Read n next → Judged wildcards s) →
       Judged wildcards s
   from-dot at count l more =
@@ -140,7 +140,7 @@ module _ (wildcards : Bool) (s : List ℕ) (short : length s ≤ longest) where
         | big-number e ↦ fault (Fault.release-too-big at count l e)
       ]
 
-  -- there is room for so many numbers
+  -- there is room for `room` numbers
   from-number : (room at count : ℕ) → count + room ≡ 16 → Listed s at count → Judged wildcards s
   from-number zero at count e l =
       let full : count ≡ 16 = omega arith in

@@ -42,7 +42,7 @@ module _ {s : List ℕ} {at : ℕ} (b : Epoch s at) where
   unfolding afterEpoch
   first-read n next e = rw e at behind-mark
 
--- so many numbers were read: the head goes on from `at` as it went from the start
+-- `count` numbers were read: the head goes on from `at` as it went from the start
 record SoFar (s : List ℕ) (at count : ℕ) : Type 0 where
   epoch : ℕ
   release : Release
@@ -65,7 +65,7 @@ so-far (Listed.behind-epoch n from at b e) =
     record { epoch = b .epoch; release = onlyNumber n; size = refl; same = first-read b n at e }
 so-far (Listed.another n from at count l few e) = one-more n at few e (so-far l)
 
--- the number that is due behind a dot at `at` is too big, or the 17th
+-- the number that is due after a dot at `at` is too big, or the 17th
 module _ {s : List ℕ} {at : ℕ} where
   pub next-big : {count : ℕ} → Listed s at count → markedNumber (code ".") s at ≡ TooBig → headRefused 3 (at + 1) ≡ headOf s
   next-big l e = let f = so-far l in release-big _ _ (f .release) _ _ _ (f .same) refl _ e refl

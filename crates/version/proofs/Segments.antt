@@ -12,7 +12,7 @@ use Rattle.version_reading.specs.Label.{wordEnd, spanning, labelRead, labelRefu
 use Rattle.version_reading.proofs.Labels.{label-none, segment-empty, segment-full, segment-last, segment-more}
 use Rattle.version.specs.Refusals.{DevRead, Segmented, Labelled}
 
--- so many segments were read: the label goes on from `at` as it went from its start
+-- `count` segments were read: the label goes on from `at` as it went from its start
 pub record SoFar (s : List ℕ) (at count : ℕ) : Type 0 where
   pub start : ℕ
   pub before : DevRead s start

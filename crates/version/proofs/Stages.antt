@@ -1,4 +1,4 @@
--- What a text that is not too long comes to behind its release, stage by stage: the wildcard, the optional parts, the label, the end.
+-- What a text that is not too long comes to after its release, stage by stage: the wildcard, the optional parts, the label, the end.
 -- Assumes nothing.
 use mathlib.Core.Path.{_≡_, refl, _∙_}
 use mathlib.Core.Bool.{Bool, true, false}

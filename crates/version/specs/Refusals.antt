@@ -27,13 +27,13 @@ pub record Epoch (s : List ℕ) (at : ℕ) : Type 0 where
   pub marked : getD s mark 0 ≡ code "!"
   pub behind : at ≡ mark + 1
 
--- so many release numbers were read, the last of them up to `at`
+-- `count` release numbers were read, the last of them up to `at`
 pub data Listed (s : List ℕ) : ℕ → ℕ → Type 0 where
   plain : (n at : ℕ) → numberAt s (leadEnd s) ≡ Read n at → (getD s at 0 ≡ code "!" → ⊥) → Listed s at 1
   behind-epoch : (n from at : ℕ) → Epoch s from → numberAt s from ≡ Read n at → Listed s at 1
   another : (n from at count : ℕ) → Listed s from count → count < 16 → markedNumber (code ".") s from ≡ Read n at → Listed s at (suc count)
 
--- the release ends at `at`: no further number stands behind a dot
+-- the release ends at `at`: no further number stands after a dot
 pub record Released (s : List ℕ) (at : ℕ) : Type 0 where
   pub count : ℕ
   pub listed : Listed s at count
@@ -63,7 +63,7 @@ pub record DevRead (s : List ℕ) (at : ℕ) : Type 0 where
   pub dev : MaybeNumber
   pub read : devAt s from ≡ PartIs dev at
 
--- so many segments of a label were read, and the next is due at `at`
+-- `count` segments of a label were read, and the next is due at `at`
 pub data Segmented (s : List ℕ) : ℕ → ℕ → Type 0 where
   opened : (at : ℕ) → DevRead s at → getD s at 0 ≡ code "+" → Segmented s (at + 1) 0
   separated : (at count : ℕ) → Segmented s at count → count < 16 → (wordEnd s at ≡ at → ⊥) →
@@ -81,7 +81,7 @@ pub data Fault (wildcards : Bool) (s : List ℕ) : ℕ → ℕ → Type 0 where
   no-leading-number : numberAt s (leadEnd s) ≡ Absent → Fault wildcards s 1 (leadEnd s)
   -- no digit after `!`
   no-release-number : (at : ℕ) → Epoch s at → numberAt s at ≡ Absent → Fault wildcards s 2 at
-  -- a number of 2^64 and more: the first, the one behind `!`, one of the release, that of a pre-, post- or development release
+  -- a number of 2^64 and more: the first, the one after `!`, one of the release, that of a pre-, post- or development release
   leading-too-big : numberAt s (leadEnd s) ≡ TooBig → Fault wildcards s 3 (leadEnd s)
   first-too-big : (at : ℕ) → Epoch s at → numberAt s at ≡ TooBig → Fault wildcards s 3 at
   release-too-big : (at count : ℕ) → Listed s at count → markedNumber (code ".") s at ≡ TooBig → Fault wildcards s 3 (at + 1)
@@ -90,7 +90,7 @@ pub data Fault (wildcards : Bool) (s : List ℕ) : ℕ → ℕ → Type 0 where
   dev-too-big : (at digits : ℕ) → PostRead s at → devAt s at ≡ PartTooBig digits → Fault wildcards s 3 digits
   -- a segment without a byte
   segment-empty : (at count : ℕ) → Segmented s at count → wordEnd s at ≡ at → Fault wildcards s 4 at
-  -- bytes left over behind the label and blanks
+  -- bytes left over after the label and blanks
   left-over : (at end : ℕ) → Labelled s at → end ≡ at + front (between blank blank) (drop at s) → end < length s → Fault wildcards s 5 end
   -- `.*` right after a version's release
   version-wildcard : (at : ℕ) → wildcards ≡ false → Released s at → startsWith (ascii ".*") (drop at s) ≡ true → Fault wildcards s 6 at

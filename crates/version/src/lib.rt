@@ -41,7 +41,7 @@ pub fn segment(text: &[u8], index: usize) -> &[u8]
     version_reading::segment::segment_text(text, index)
 }
 
-// Writes the normal text of a version to the front of a buffer. A refused call leaves the buffer as it was, and success what lies behind the text.
+// Writes the normal text of a version to the front of a buffer. A refused call leaves the buffer as it was, and success what lies after the text.
 pub fn normal(text: &[u8], buffer: &mut [u8]) -> Measured
     ensures { λ r. ⌜ NormalPrinted (now (text .entry)) (now (buffer .entry)) (now (buffer .exit)) r ⌝ }
 {

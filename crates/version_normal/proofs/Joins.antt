@@ -1,4 +1,4 @@
--- Joined texts, as a loop writes them behind the first: what is written, with what is still to come, is the whole.
+-- Joined texts, as a loop writes them after the first: what is written, with what is still to come, is the whole.
 -- Assumes nothing.
 use mathlib.Core.Path.{_≡_, refl, sym, _∙_}
 use mathlib.Core.List.{List, [], _∷_, _++_, append-nil, append-assoc}
@@ -72,7 +72,7 @@ module _ (r : Release) (count : ℕ) (e : count ≡ min (r .len) 16) where
   unfolding releaseText
   release-done first old new from at i next p q h = rw (← e) (join-done (λ k. decimal (getD (r .numbers) k 0)) count p q h)
 
--- the label, whose first `count` segments are joined behind a plus; b is the bytes of a segment
+-- the label, whose first `count` segments are joined after a plus; b is the bytes of a segment
 module _ (s : List ℕ) (l : Local) (count : ℕ) where
   pub label-none : (buf : List ℕ) (i : ℕ) → length buf < 2 ^ 64 → i < 2 ^ 64 → count ≡ min (l .len) 16 → count ≡ 0 → Wrote buf i (labelText s l) buf i
   unfolding labelText

@@ -26,7 +26,7 @@ use Rattle.version_reading.specs.declared.text.Verdict.the-variants.{Accepted, 
 use Rattle.version_reading.specs.Reading.{versionOf}
 use Rattle.version_reading.specs.Segment.{segmentOf, segmentBytes}
 
--- the texts number i, i + 1, .. of so many, each behind a dot
+-- the texts number i, i + 1, .., `count` of them, each after a dot
 unfoldable pub dotted : (ℕ → List ℕ) → ℕ → ℕ → List ℕ
 dotted text i zero = []
 dotted text i (suc count) = code "." ∷ (text i ++ dotted text (suc i) count)

@@ -26,7 +26,7 @@ fn store_lower(buf: &mut [u8], at: usize, s: &[u8]) -> usize
     next
 }
 
-// Behind the end nothing has room: so it is in each run that only asks for the length.
+// After the end nothing has room: so it is in each run that only asks for the length.
 pub fn put_lower(buf: &mut [u8], at: usize, s: &[u8]) -> usize
     ensures { λ r. ⌜ Put (length (now (s .entry))) (now (buf .entry)) at (lowered (now (s .entry))) (now (buf .exit)) r ⌝ }
 {

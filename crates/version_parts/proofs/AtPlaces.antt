@@ -28,7 +28,7 @@ module _ (s : List ℕ) (at k r : ℕ) (e : k ≡ getD s at 0) (f : r ≡ classO
   unfolding separatorEnd
   separator-missing h = no-eq _ _ _ (λ q. h (f ∙ ap classOf e ∙ q)) refl
 
--- behind the end of the text
+-- after the end of the text
 pub number-past : (s : List ℕ) (at : ℕ) → length s < at → Absent ≡ numberAt s at
 number-past s at h = sym (number-ended s at (omega arith))
 
@@ -72,11 +72,11 @@ module _ {A : Type 0} {r x : NumberAt} {y : A} (none : A) (read : ℕ → ℕ �
 
 pub ruleset numbers = (if-none, if-read, if-big)
 
--- the place behind a number that was read lies within the text
+-- the place after a number that was read lies within the text
 pub read-within : (s : List ℕ) (r : NumberAt) (n next : ℕ) → numberNext r ≤ length s → r ≡ Read n next → next ≤ length s
 read-within s r n next h f = rw f at h
 
--- the place of the mark lies within the text, and so does the place behind it
+-- the place of the mark lies within the text, and so does the place after it
 pub behind-mark : (s : List ℕ) (at : ℕ) (r : NumberAt) → at < length s → behindMark at r ≤ length s
 behind-mark s at Absent h = omega arith
 behind-mark s at (Read n next) h = omega arith
@@ -85,7 +85,7 @@ behind-mark s at TooBig h = omega arith
 pub mark-big : (s : List ℕ) (at : ℕ) (r : NumberAt) → behindMark at r ≤ length s → r ≡ TooBig → at + 1 ≤ length s
 mark-big s at r g f = rw f at g
 
--- a place x that is not behind the mark lies within the text
+-- a place x that is not after the mark lies within the text
 module _ (s : List ℕ) (at x : ℕ) (r : NumberAt) (h : x ≤ at + 1) (g : behindMark at r ≤ length s) where
   pub near-big : r ≡ TooBig → x ≤ length s
   near-big f = omega (arith, rw f at g)

@@ -1,4 +1,4 @@
--- Behind the end of a text stands nothing: no number, no separator, no suffix.
+-- After the end of a text stands nothing: no number, no separator, no suffix.
 -- Assumes nothing.
 use mathlib.Core.Path.{_≡_, refl}
 use mathlib.Core.Bool.{Bool, true, false, cond}

@@ -16,7 +16,7 @@ use Rattle.version_parts.specs.Fields.{pushedNumber}
 use Rattle.version_parts.specs.Places.{markedNumber}
 use Rattle.version_parts.specs.Head.{leadEnd, headRead, headRefused, releaseFrom, headAt, headOf}
 
--- behind the blanks stands the byte k, r in lower case
+-- after the blanks stands the byte k, r in lower case
 module _ (s : List ℕ) (at k r : ℕ) (a : at ≡ front (between blank blank) s) (e : k ≡ getD s at 0) (f : r ≡ lowerOf k) where
   pub lead-v : r ≡ 118 → at + 1 ≡ leadEnd s
   unfolding leadEnd

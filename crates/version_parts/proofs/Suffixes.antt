@@ -46,7 +46,7 @@ module _ (s : List ℕ) (at d : ℕ) (r : NumberAt) (a : d ≡ separatorEnd s at
   unfolding numberOrZero
   count-big f = rw (← a, ← e, f)
 
--- the place behind a part, within the text
+-- the place after a part, within the text
 pub count-within : (s : List ℕ) (r : Count) (n next : ℕ) → countNext r ≤ length s → r ≡ Counted n next → next ≤ length s
 count-within s r n next h f = rw f at h
 
@@ -86,7 +86,7 @@ module _ (s : List ℕ) (at from : ℕ) (r : PreSpelling) (a : from ≡ separato
     unfolding preAt
     pre-big d h = rw (← a, ← spelled, f, ← g, h)
 
--- a spelling that was found behind the separator at `at` ends within the text
+-- a spelling that was found after the separator at `at` ends within the text
 module _ (s : List ℕ) (at from : ℕ) where
   rest-ends : (len : ℕ) → len ≤ length (take (length s - from) (drop from s)) → from ≤ max at (length s) → at ≤ length s → from + len ≤ length s
   rest-ends len h g k = omega (arith, rw (take-rest s from) at h, length-drop from s)
@@ -120,7 +120,7 @@ module _ (s : List ℕ) (at from : ℕ) (r : Spelling) where
     pub part-big : (d : ℕ) → c ≡ CountTooBig d → PartTooBig d ≡ partFrom s at from r
     part-big d h = rw (f, ← g, h)
 
--- r is the spelling that f finds behind the separator
+-- r is the spelling that f finds after the separator
 pub part-spelled : (f : List ℕ → Spelling) (s : List ℕ) (at from : ℕ) (r : Spelling) (y : PartStep) →
     from ≡ separatorEnd s at → r ≡ f (take (length s - from) (drop from s)) → y ≡ partFrom s at from r →
     y ≡ partFrom s at (separatorEnd s at) (f (drop (separatorEnd s at) s))

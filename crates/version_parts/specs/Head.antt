@@ -25,7 +25,7 @@ leadEnd s =
     let at = front (between blank blank) s in
     cond (eqb (lowerOf (getD s at 0)) (code "v")) (at + 1) at
 
--- rule 3: more release numbers, each after a dot, with room for so many; a dot with no digit behind it is given back
+-- rule 3: more release numbers, each after a dot, with room for `room`; a dot with no digit after it is given back
 unfoldable pub releaseFrom : ℕ → List ℕ → ℕ → Release → ℕ → Head
 releaseFrom zero s epoch release at =
     onNumber (markedNumber (code ".") s at)
@@ -38,7 +38,7 @@ releaseFrom (suc room) s epoch release at =
     (λ n next. releaseFrom room s epoch (pushedNumber release n) next)
     (headRefused 3 (at + 1))
 
--- rule 2: behind the mark of an epoch a release number must come
+-- rule 2: after the mark of an epoch a release number must come
 unfoldable pub afterEpoch : List ℕ → ℕ → ℕ → Head
 afterEpoch s epoch at =
     onNumber (numberAt s at)
@@ -57,7 +57,7 @@ headAt s at =
 unfoldable pub headOf : List ℕ → Head
 headOf s = headAt s (leadEnd s)
 
--- r is what the rule gives as `spec`, and names no place behind `end`
+-- r is what the rule gives as `spec`, and names no place after `end`
 pub record Headed (end : ℕ) (spec r : Head) : Type 0 where
   pub is : r ≡ spec
   pub within : r .at ≤ end

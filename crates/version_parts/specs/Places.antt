@@ -1,4 +1,4 @@
--- What stands at a place of the text: blanks, a separator, a number, a number behind a mark.
+-- What stands at a place of the text: blanks, a separator, a number, a number after a mark.
 use mathlib.Core.Path.{_≡_}
 use mathlib.Core.Bool.{cond}
 use mathlib.Core.List.{List}
@@ -17,7 +17,7 @@ pub record Reached (s : List ℕ) (spec r : ℕ) : Type 0 where
   pub is : r ≡ spec
   pub within : r ≤ length s
 
--- r is the place that the rule gives as `spec`, at or behind `at`, and no further than the text goes
+-- r is the place that the rule gives as `spec`, at or after `at`, and no further than the text goes
 pub record Stepped (s : List ℕ) (at spec r : ℕ) : Type 0 where
   pub is : r ≡ spec
   pub from : at ≤ r
@@ -27,7 +27,7 @@ pub record Stepped (s : List ℕ) (at spec r : ℕ) : Type 0 where
 unfoldable pub separatorEnd : List ℕ → ℕ → ℕ
 separatorEnd s at = cond (eqb (classOf (getD s at 0)) separator) (at + 1) at
 
--- the number at the front of a part that begins at `at`, by the place behind it
+-- the number at the front of a part that begins at `at`, by the place after it
 abbrev pub placed : ℕ → Leading → NumberAt
 placed at NoLeading = Absent
 placed at (Led n len) = Read n (at + len)
@@ -36,11 +36,11 @@ placed at LeadingTooBig = TooBig
 unfoldable pub numberAt : List ℕ → ℕ → NumberAt
 numberAt s at = placed at (leadingOf (drop at s))
 
--- a mark, and a number right behind it
+-- a mark, and a number right after it
 unfoldable pub markedNumber : ℕ → List ℕ → ℕ → NumberAt
 markedNumber mark s at = cond (eqb (getD s at 0) mark) (numberAt s (at + 1)) Absent
 
--- by cases: no number; one, with its value and the place behind it; one of 2^64 and more
+-- by cases: no number; one, with its value and the place after it; one of 2^64 and more
 abbrev pub onNumber : {A : Type 0} → NumberAt → A → (ℕ → ℕ → A) → A → A
 onNumber Absent none read big = none
 onNumber (Read n next) none read big = read n next
@@ -55,7 +55,7 @@ pub record NumberedAt (s : List ℕ) (spec r : NumberAt) : Type 0 where
   pub is : r ≡ spec
   pub within : numberNext r ≤ length s
 
--- the place behind the mark, where it is there with a digit behind it
+-- the place after the mark, where it is there with a digit after it
 abbrev pub behindMark : ℕ → NumberAt → ℕ
 behindMark at Absent = 0
 behindMark at (Read n next) = at + 1

@@ -90,7 +90,7 @@ suffixFrom s (PreTooBig d) = TooBig d
 unfoldable pub suffixAt : List ℕ → ℕ → Suffix
 suffixAt s at = suffixFrom s (preAt s at)
 
--- the place that an answer names, within the text: behind the part, or of digits that are too big
+-- the place that an answer names, within the text: after the part, or of digits that are too big
 abbrev pub countNext : Count → ℕ
 countNext (Counted n next) = next
 countNext (CountTooBig d) = d
@@ -119,7 +119,7 @@ abbrev pub suffixNext : Suffix → ℕ
 suffixNext (Read pre post dev next) = next
 suffixNext (TooBig d) = d
 
--- the suffix was looked for at `at`, which may lie behind the end
+-- the suffix was looked for at `at`, which may lie after the end
 pub record SuffixRead (s : List ℕ) (at : ℕ) (spec r : Suffix) : Type 0 where
   pub is : r ≡ spec
   pub within : suffixNext r ≤ max at (length s)

@@ -45,7 +45,7 @@ fn lead_end(s: &[u8]) -> usize
     at
 }
 
-// The release from behind its first number on: each further number stands after a dot.
+// The release from after its first number on: each further number stands after a dot.
 fn read_release(s: &[u8], epoch: u64, first: u64, from: usize) -> Head
     requires { ⌜ from ≤ length (now s) ⌝ }
     ensures { λ r. ⌜ Headed (length (now (s .entry))) (releaseFrom 15 (now (s .entry)) epoch (onlyNumber first) from) r ⌝ }
@@ -77,7 +77,7 @@ fn read_release(s: &[u8], epoch: u64, first: u64, from: usize) -> Head
     }
 }
 
-// Behind the `!` of an epoch a release number must come.
+// After the `!` of an epoch a release number must come.
 fn after_epoch(s: &[u8], epoch: u64, at: usize) -> Head
     requires { ⌜ at ≤ length (now s) ⌝ }
     ensures { λ r. ⌜ Headed (length (now (s .entry))) (afterEpoch (now (s .entry)) epoch at) r ⌝ }

@@ -1,11 +1,11 @@
-// What stands at a place of the text: a separator, a number, a number behind a mark.
+// What stands at a place of the text: a separator, a number, a number after a mark.
 use chars::class;
 use chars::place::byte_at;
 use decimal::parse::Leading;
 use decimal::parse::leading_number;
 ghost use Rattle.version_parts.specs.Places.{Stepped, NumberedAt, MarkedAt, separatorEnd, numberAt, markedNumber};
 
-// A number at a place: none, its value and the place behind it, or one of 2^64 and more.
+// A number at a place: none, its value and the place after it, or one of 2^64 and more.
 pub enum NumberAt {
     Absent,
     Read(u64, usize),
@@ -22,7 +22,7 @@ pub fn separator_end(s: &[u8], at: usize) -> usize
     at
 }
 
-// No number stands behind the end of the text.
+// No number stands after the end of the text.
 pub fn number_at(s: &[u8], at: usize) -> NumberAt
     ensures { λ r. ⌜ NumberedAt (now (s .entry)) (numberAt (now (s .entry)) at) r ⌝ }
 {
@@ -36,7 +36,7 @@ pub fn number_at(s: &[u8], at: usize) -> NumberAt
     }
 }
 
-// The mark, and a number right behind it. Behind the end there is neither, also where the mark is the byte 0.
+// The mark, and a number right after it. After the end there is neither, also where the mark is the byte 0.
 pub fn marked_number(s: &[u8], at: usize, mark: u8) -> NumberAt
     ensures { λ r. ⌜ MarkedAt (now (s .entry)) at (markedNumber mark (now (s .entry)) at) r ⌝ }
 {

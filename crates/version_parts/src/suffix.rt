@@ -15,7 +15,7 @@ ghost use lib.ListN.{length};
 ghost use Rattle.chars.specs.Spelling.{spellingLength};
 ghost use Rattle.version_parts.specs.Suffix.{CountRead, PreRead, PartRead, SuffixRead, numberOrZero, preAt, partFrom, spelledPost, postAt, devAt, suffixAt};
 
-// The number of a part: its value and the place behind it, or the place of a number of 2^64 and more.
+// The number of a part: its value and the place after it, or the place of a number of 2^64 and more.
 pub enum Count {
     Read(u64, usize),
     TooBig(usize),
@@ -105,7 +105,7 @@ fn read_dev(s: &[u8], at: usize) -> PartStep
     read_spelled(s, at, from, dev_spelling(&s[from..]))
 }
 
-// Behind the end of the text there is no part, and the cursor stays.
+// After the end of the text there is no part, and the cursor stays.
 pub fn read_suffix(s: &[u8], at: usize) -> Suffix
     ensures { λ r. ⌜ SuffixRead (now (s .entry)) at (suffixAt (now (s .entry)) at) r ⌝ }
 {

@@ -63,7 +63,7 @@ pub parts-begin : (p l : List ℕ) (len count few m size n : ℕ) (r : Bool) →
 parts-begin p l len count few m size n r s t e f g h =
     rw (← take-both len count p, ← e, ← counted p few m s f, ← counted l size n t g) h
 
--- w against the first so many numbers of v's release
+-- w against the first `count` numbers of v's release
 module _ (v w : Version) (count : ℕ) where
   pub epochs-differ : (v .epoch ≡ w .epoch → ⊥) → false ≡ prefixMatches (cutTo count (valueOf [] v)) (valueOf [] w)
   unfolding valueOf prefixMatches
@@ -86,7 +86,7 @@ pub shorter-matches : (v w : Version) (count : ℕ) (r : Bool) → count ≡ len
 unfolding valueOf
 shorter-matches v w count r e f = rw e at f
 
--- so many of the array's numbers count
+-- the first `len` of the array's numbers count
 module _ (l : List ℕ) (len n : ℕ) (size : length (map (λ k. k) l) ≡ 16) (e : n ≡ min len 16) where
   pub none-but-last : n ≡ 0 → 0 ≡ length (take len l) - 1
   none-but-last f = omega (arith, length-take len l, length-unmapped ℕ l 16 size)

@@ -26,7 +26,7 @@ module _ (epoch : ℕ) where
   unfolding nextEpoch
   epoch-raised q v e f g = rw (ne-eqb _ _ e, g, f, add-one epoch)
 
--- of n numbers so many are left
+-- of n numbers `left` are left
 module _ (epoch : ℕ) (r : Release) (left n : ℕ) (same : nextFields epoch r left ≡ nextFields epoch r n) where
   pub match-none : (q : Next) → left ≤ 0 → q ≡ nextEpoch epoch → q ≡ nextFields epoch r n
   unfolding nextFields

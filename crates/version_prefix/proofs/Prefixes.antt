@@ -35,12 +35,12 @@ tail-held : (l : List ℕ) → Fit l → Fit (tail l)
 tail-held [] a = tt
 tail-held (y ∷ l) a = a .1
 
--- the number x against the first number of l; n is what the numbers behind x become
+-- the number x against the first number of l; n is what the numbers after x become
 module _ (x : ℕ) (l : List ℕ) where
   step : (q : List ℕ) → padded compare 0 (x ∷ q) l ≡ also (compare x (headOr 0 l)) (padded compare 0 q (tail l))
   step q = padded-step number-laws 0 (x ∷ q) l
 
-  -- the same number: the numbers behind decide
+  -- the same number: the numbers after decide
   pub kept : (n : Option (List ℕ)) → compare x (headOr 0 l) ≡ eq → above (raised x n) l ≡ above n (tail l)
   kept (some q) e = rw (step q, e)
   kept none e = go (eqb x largest)

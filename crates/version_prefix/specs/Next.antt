@@ -44,7 +44,7 @@ noNext = record { exists = false; version = noVersion }
 unfoldable pub nextEpoch : ℕ → Next
 nextEpoch epoch = cond (eqb epoch largest) noNext (next (devZeroFields (suc epoch) (onlyNumber 0)))
 
--- where it ends, if it does, with the first so many numbers for a prefix
+-- where it ends, if it does, with the first `count` numbers for a prefix
 unfoldable pub nextFields : ℕ → Release → ℕ → Next
 nextFields epoch r zero = nextEpoch epoch
 nextFields epoch r (suc i) =

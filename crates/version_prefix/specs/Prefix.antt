@@ -23,7 +23,7 @@ begins (x ∷ prefix) numbers = eqb x (headOr 0 numbers) && begins prefix (tail 
 unfoldable pub prefixMatches : Value → Value → Bool
 prefixMatches v w = eqb (v .epoch) (w .epoch) && begins (v .release) (w .release)
 
--- the version with the first so many of its release numbers, and with its release less the last number
+-- the version with the first `count` of its release numbers, and with its release less the last number
 abbrev pub cutTo : ℕ → Value → Value
 cutTo count v = record {
   epoch = v .epoch;
@@ -37,7 +37,7 @@ cutTo count v = record {
 abbrev pub shorter : Value → Value
 shorter v = cutTo (length (v .release) - 1) v
 
--- the number x, and what the numbers behind it have become; with all of them dropped, it is the last
+-- the number x, and what the numbers after it have become; with all of them dropped, it is the last
 abbrev pub raised : ℕ → Option (List ℕ) → Option (List ℕ)
 raised x (some rest) = some (x ∷ rest)
 raised x none = cond (eqb x largest) none (some (suc x ∷ []))

@@ -68,7 +68,7 @@ fn raise(mut release: Release, i: usize, n: u64) -> Release
     release
 }
 
-// Where it ends, with the first so many numbers for a prefix. The largest numbers at its end are dropped.
+// Where it ends, with the first `count` numbers of v for a prefix. The largest numbers at its end are dropped.
 pub fn match_end(v: Version, count: usize) -> Next
     ensures { λ r. ⌜ r ≡ nextFields (v .epoch) (v .release) (min count 16) ⌝ }
 {

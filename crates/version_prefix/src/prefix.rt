@@ -25,7 +25,7 @@ pub fn begins_with(numbers: &[u64], prefix: &[u64]) -> bool
     true
 }
 
-// Whether a release begins with the first so many numbers of another.
+// Whether `release` begins with the first `count` numbers of `prefix`.
 fn release_begins(release: Release, prefix: Release, count: usize) -> bool
     ensures { λ r. ⌜ r ≡ begins (take count (take (prefix .len) (prefix .numbers))) (take (release .len) (release .numbers)) ⌝ }
 {
@@ -37,7 +37,7 @@ fn release_begins(release: Release, prefix: Release, count: usize) -> bool
     begins_with(&numbers[..n], &wanted[..m])
 }
 
-// Whether w has the epoch of v, and begins with the first so many numbers of its release.
+// Whether w has the epoch of v, and begins with the first `count` numbers of its release.
 pub fn matches_prefix(v: Version, count: usize, w: Version) -> bool
     ensures { λ r. ⌜ r ≡ prefixMatches (cutTo count (valueOf [] v)) (valueOf [] w) ⌝ }
 {

@@ -159,7 +159,7 @@ head-found s = go (numberAt s 0) refl
     go (Read a next) e k = rw (no-lead s a next e, e) (marked a next (eqb (getD s next 0) 33) k)
     go TooBig e k = absurd (k refl)
 
--- behind the head
+-- after the head
 abbrev Reads : PatternReading → PlainReading → Type 0
 Reads x r = r .found ≡ true → x ≡ accepted false (wholeVersion (r .plain))
 

@@ -27,7 +27,7 @@ module _ (h : PlainHead) (pre : Pre) (post dev : MaybeNumber) (q : PlainReading)
   pub found-filled : Filled (h .count) (h .first) (h .second) (h .third) (h .fourth) → FilledPlain (q .plain)
   found-filled filled = rw e filled
 
--- behind the head: the text ends there
+-- after the head: the text ends there
 pub plain-bare : (s : List ℕ) (h : PlainHead) (q : PlainReading) → h .at ≡ length s → q ≡ foundWith h NoPre NoPart NoPart → q ≡ plainAt s h
 unfolding plainAt
 plain-bare s h q e g = yes-eq _ _ _ e g

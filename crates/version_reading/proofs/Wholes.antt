@@ -41,7 +41,7 @@ module _ (s : List ℕ) (h : Head) (pre : Pre) (post dev : MaybeNumber) (at : �
   unfolding afterSuffix
   end-refused q f g = rw (← e) (no-eq _ _ _ f g)
 
-  -- n blanks stand behind the label
+  -- n blanks stand after the label
   module _ (n : ℕ) (f : l .refusal ≡ 0) (g : n ≡ front (between blank blank) (take (length s - l .at) (drop (l .at) s))) where
     blanks : n ≡ front (between blank blank) (drop (l .at) s)
     blanks = rw (take-rest s (l .at)) at g
@@ -54,7 +54,7 @@ module _ (s : List ℕ) (h : Head) (pre : Pre) (post dev : MaybeNumber) (at : �
     unfolding afterSuffix
     end-read k = rw (← e) (yes-eq _ _ _ f (rw (← blanks) (no-lt _ _ _ k refl)))
 
--- rules 5 to 7: the suffix x stands behind the head
+-- rules 5 to 7: the suffix x stands after the head
 module _ (s : List ℕ) (h : Head) (x : Suffix) (q : PatternReading) (e : x ≡ suffixAt s (h .at)) where
   pub rest-big : (d : ℕ) → x ≡ SuffixTooBig d → q ≡ refusedWith 3 d → q ≡ afterRelease s h
   unfolding afterRelease
@@ -70,7 +70,7 @@ module _ (wildcards : Bool) (s : List ℕ) (h : Head) (q : PatternReading) (shor
   unfolding patternAs
   whole-head f g = no-lt _ _ _ short (rw (← e) (no-eq _ _ _ f g))
 
-  -- n bytes of `.*` stand behind the release
+  -- n bytes of `.*` stand after the release
   module _ (n : ℕ) (f : h .refusal ≡ 0) (b : n ≡ beginningOf (46 ∷ 42 ∷ []) (take (length s - h .at) (drop (h .at) s))) where
     star : n ≡ beginningOf (46 ∷ 42 ∷ []) (drop (h .at) s)
     star = rw (take-rest s (h .at)) at b

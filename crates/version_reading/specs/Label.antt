@@ -33,7 +33,7 @@ moreSegments more s local at end =
     (labelRead (pushedSpan local (spanning at end)) end)
     (more (pushedSpan local (spanning at end)) (separatorEnd s end))
 
--- segments from `at` on, with room for so many
+-- segments from `at` on, with room for `room`
 unfoldable pub segmentsFrom : ℕ → List ℕ → Local → ℕ → LabelRead
 segmentsFrom zero s local at = cond (eqb (wordEnd s at) at) (labelRefused 4 at) (labelRefused 10 at)
 segmentsFrom (suc room) s local at =
@@ -44,7 +44,7 @@ segmentsFrom (suc room) s local at =
 unfoldable pub labelAt : List ℕ → ℕ → LabelRead
 labelAt s at = cond (eqb (getD s at 0) (code "+")) (segmentsFrom 16 s noLocal (at + 1)) (labelRead noLocal at)
 
--- r is what the rule gives as `spec`, and names no place behind `end`
+-- r is what the rule gives as `spec`, and names no place after `end`
 pub record Labelled (end : ℕ) (spec r : LabelRead) : Type 0 where
   pub is : r ≡ spec
   pub within : r .at ≤ end

@@ -31,7 +31,7 @@ plainHead count a b c d at = record { count = count; first = a; second = b; thir
 abbrev pub noHead : PlainHead
 noHead = plainHead 0 0 0 0 0 0
 
--- the release from behind its numbers so far on
+-- the release from after its numbers so far on
 unfoldable pub afterFourth : List ℕ → ℕ → ℕ → ℕ → ℕ → ℕ → PlainHead
 afterFourth s a b c d at = onNumber (markedNumber (code ".") s at) (plainHead 4 a b c d at) (λ e next. noHead) noHead
 
@@ -51,7 +51,7 @@ plainHeadOf s =
     (λ a next. cond (eqb (getD s next 0) (code "!")) noHead (afterFirst s a next))
     noHead
 
--- of four numbers so many are there, and the others are 0
+-- of four numbers the first `count` are there, and the others are 0
 pub data Filled (count a b c d : ℕ) : Type 0 where
   none : count ≡ 0 → a ≡ 0 → b ≡ 0 → c ≡ 0 → d ≡ 0 → Filled count a b c d
   one : count ≡ 1 → b ≡ 0 → c ≡ 0 → d ≡ 0 → Filled count a b c d
@@ -59,7 +59,7 @@ pub data Filled (count a b c d : ℕ) : Type 0 where
   three : count ≡ 3 → d ≡ 0 → Filled count a b c d
   four : count ≡ 4 → Filled count a b c d
 
--- r is what the rule gives as `spec`, and names no place behind `end`
+-- r is what the rule gives as `spec`, and names no place after `end`
 pub record PlainHeaded (end : ℕ) (spec r : PlainHead) : Type 0 where
   pub is : r ≡ spec
   pub within : r .at ≤ end
@@ -88,7 +88,7 @@ abbrev pub plainSuffixed : List ℕ → PlainHead → Suffix → PlainReading
 plainSuffixed s h (SuffixRead pre post dev next) = cond (eqb next (length s)) (foundWith h pre post dev) notPlain
 plainSuffixed s h (SuffixTooBig d) = notPlain
 
--- behind the release: nothing, or a suffix and nothing
+-- after the release: nothing, or a suffix and nothing
 unfoldable pub plainAt : List ℕ → PlainHead → PlainReading
 plainAt s h =
     cond (eqb (h .at) (length s))

@@ -28,7 +28,7 @@ use Rattle.version_reading.specs.declared.text.PatternReading.{PatternRe
 use Rattle.version_reading.specs.declared.text.VersionReading.{VersionReading}
 use Rattle.version_reading.specs.Label.{labelAt}
 
--- a text or a list has at most so many bytes
+-- the most bytes that a text or a list has
 abbrev pub longest : ℕ
 longest = 1024
 
@@ -53,7 +53,7 @@ fielded h pre post dev local = record {
 abbrev pub accepted : Bool → Version → PatternReading
 accepted wildcard version = record { verdict = Accepted; wildcard = wildcard; version = version }
 
--- rule 4: behind the release stands `.*`; a version may not have it, and a pattern has nothing at all after it
+-- rule 4: after the release stands `.*`; a version may not have it, and a pattern has nothing at all after it
 unfoldable pub starred : Bool → List ℕ → Head → PatternReading
 starred wildcards s h =
     cond wildcards

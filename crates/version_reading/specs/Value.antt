@@ -42,7 +42,7 @@ labelAs bytes IsText = text (lowered bytes)
 unfoldable pub labelFrom : List ℕ → LocalSegment
 labelFrom bytes = labelAs bytes (segmentOf bytes)
 
--- the elements number i, i + 1, .. of so many
+-- the elements number i, i + 1, .., `count` of them
 unfoldable pub listed : {A : Type 0} → (ℕ → A) → ℕ → ℕ → List A
 listed f i zero = []
 listed f i (suc count) = f i ∷ listed f (suc i) count

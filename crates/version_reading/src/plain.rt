@@ -71,7 +71,7 @@ fn no_head() -> PlainHead
     }
 }
 
-// Behind the fourth number no fifth may come.
+// After the fourth number no fifth may come.
 fn after_fourth(s: &[u8], first: u64, second: u64, third: u64, fourth: u64, at: usize) -> PlainHead
     requires { ⌜ at ≤ length (now s) ⌝ }
     ensures { λ r. ⌜ PlainHeaded (length (now (s .entry))) (afterFourth (now (s .entry)) first second third fourth at) r ⌝ }
@@ -195,7 +195,7 @@ pub fn not_found() -> PlainReading
     }
 }
 
-// From behind the release on: nothing, or a suffix and nothing.
+// From after the release on: nothing, or a suffix and nothing.
 fn read_plain_rest(s: &[u8], head: PlainHead) -> PlainReading
     requires { ⌜ (head .at ≤ length (now s)) × (head .count ≤ 4) × Filled (head .count) (head .first) (head .second) (head .third) (head .fourth) ⌝ }
     ensures { λ r. ⌜ PlainRead (plainAt (now (s .entry)) head) r ⌝ }

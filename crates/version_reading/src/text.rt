@@ -22,7 +22,7 @@ pub enum Verdict {
     Refused(Refusal),
 }
 
-// A version, and whether a wildcard stands behind it. Where it is refused, the version is the blank one and there is no wildcard.
+// A version, and whether a wildcard stands after it. Where it is refused, the version is the blank one and there is no wildcard.
 pub struct PatternReading {
     pub verdict: Verdict,
     pub wildcard: bool,
@@ -45,7 +45,7 @@ fn refused(number: u8, place: usize) -> PatternReading
     }
 }
 
-// Rule 4, at `.*` behind the release.
+// Rule 4, at `.*` after the release.
 fn read_wildcard(s: &[u8], head: Head, wildcards: bool) -> PatternReading
     requires { ⌜ (head .at + 2 ≤ length (now s)) × (length (now s) ≤ 1024) × (head .release .len ≤ 16) ⌝ }
     ensures { λ r. ⌜ Read (starred wildcards (now (s .entry)) head) r ⌝ }
@@ -74,7 +74,7 @@ fn read_wildcard(s: &[u8], head: Head, wildcards: bool) -> PatternReading
     refused(6, at)
 }
 
-// Rules 8 and 9, from behind the suffix on.
+// Rules 8 and 9, from after the suffix on.
 fn read_end(
     s: &[u8],
     head: Head,
@@ -112,7 +112,7 @@ fn read_end(
     }
 }
 
-// Rules 5 to 9, from behind the release on.
+// Rules 5 to 9, from after the release on.
 fn read_rest(s: &[u8], head: Head) -> PatternReading
     requires { ⌜ (head .at ≤ length (now s)) × (length (now s) ≤ 1024) × (head .release .len ≤ 16) ⌝ }
     ensures { λ r. ⌜ Read (afterRelease (now (s .entry)) head) r ⌝ }

@@ -69,11 +69,11 @@ quiet NoPre NoPart (IsPart n) label = record { digits = refl; dash = refl; dot =
 quiet NoPre NoPart NoPart [] = record { digits = refl; dash = refl; dot = refl; star = refl; mark = refl }
 quiet NoPre NoPart NoPart (x ∷ label) = record { digits = refl; dash = refl; dot = refl; star = refl; mark = refl }
 
--- what is looked at for a spelling: the rest behind its separator, if it begins with one
+-- what is looked at for a spelling: the rest after its separator, if it begins with one
 abbrev bared : List ℕ → List ℕ
 bared rest = drop (separated rest) rest
 
--- the spelling of a part that is not there is not found behind the separator of the next part
+-- the spelling of a part that is not there is not found after the separator of the next part
 no-pre : (post dev : MaybeNumber) (label : List LocalSegment) → preSpelling (bared (fromPost post dev label)) ≡ PreMissing
 unfolding classOf startsWith lowerOf preSpelling
 no-pre (IsPart n) dev label = refl
@@ -92,7 +92,7 @@ unfolding classOf startsWith lowerOf devSpelling
 no-dev [] = refl
 no-dev (x ∷ label) = refl
 
--- a part's number, behind its spelling
+-- a part's number, after its spelling
 count-here : (s : List ℕ) (at n : ℕ) (rest : List ℕ) → drop at s ≡ decimal n ++ rest → Fits n → digitsOf rest ≡ 0 →
     Left s rest (numberOrZero s at) (Counted n)
 unfolding numberOrZero

@@ -1,4 +1,4 @@
--- How long written texts are: the parts of a value's text, and numbers or segments behind dots.
+-- How long written texts are: the parts of a value's text, and numbers or segments after dots.
 -- Assumes nothing.
 use mathlib.Core.Path.{_≡_}
 use mathlib.Core.List.{List, [], _∷_, _++_, map, append-nil}
@@ -34,7 +34,7 @@ unfolding epochText
 epoch-length zero = omega arith
 epoch-length (suc n) = omega (arith, length-append (decimal (suc n)) (ascii "!"))
 
--- one more text behind a dot
+-- one more text after a dot
 pub dotted-snoc : (xs : List (List ℕ)) (x : List ℕ) → length (dottedAll (xs ++ (x ∷ []))) ≡ length (dottedAll xs) + suc (length x)
 dotted-snoc [] x = rw (append-nil x) (omega arith)
 dotted-snoc (y ∷ xs) x =

@@ -19,7 +19,7 @@ use Rattle.decimal.specs.Parse.{digitOf, valueFrom, numberOf}
 use Rattle.decimal.proofs.Figures.{one-digit, more-digits}
 use Rattle.decimal.proofs.Values.{digit-value}
 
--- what holds of the digits of a number below ten, and of digits with one more behind them, holds of all digits
+-- what holds of the digits of a number below ten, and of digits with one more after them, holds of all digits
 module _ (P : ℕ → List ℕ → Type 0) (one : (n : ℕ) → n < 10 → P n (figure n ∷ []))
     (more : (n : ℕ) (ds : List ℕ) → 10 ≤ n → P (n / 10) ds → P n (ds ++ (figure (n % 10) ∷ []))) where
   up-to : (most n : ℕ) → n ≤ most → (small : Bool) → ltb n 10 ≡ small → P n (decimal n)
@@ -87,7 +87,7 @@ begins-with-digit P f n rest = go (decimal n) (decimal-digits n .digits) (decima
     go [] all h = absurd (omega arith)
     go (b ∷ ds) all h = f b (ds ++ rest) (all .0)
 
--- a digit behind the digits of a number adds one digit at most
+-- a digit after the digits of a number adds one digit at most
 digit-small : (b : ℕ) → digitOf b ≤ 9
 unfolding digitOf
 digit-small b = go (leb 48 b) (leb b 57) refl

@@ -48,7 +48,7 @@ pub record Said (s : List ℕ) (v : Version) : Type 0 where
   pub short : length s ≤ 1024
   pub grows : length (valueText (valueOf s v)) ≤ length s + 9
 
--- the parts of a text, one behind the other
+-- the parts of a text, one after the other
 module _ (s : List ℕ) (h : Head) (pre : Pre) (post dev : MaybeNumber) (next : ℕ) (local : Local) (end : ℕ)
     (head : HeadRead s (h .epoch) (h .release) (h .at)) (suffix : SuffixRead s (h .at) pre post dev next)
     (label : SegmentsRead s next local end) where
@@ -99,7 +99,7 @@ Outcome s (Refused r) v = v ≡ noVersion
 abbrev Sound : List ℕ → PatternReading → Type 0
 Sound s r = Outcome s (r .verdict) (r .version)
 
--- rule by rule, behind a head that was read
+-- rule by rule, after a head that was read
 module _ (s : List ℕ) (short : length s ≤ 1024) (h : Head) (head : HeadRead s (h .epoch) (h .release) (h .at)) where
   label-read : (pre : Pre) (post dev : MaybeNumber) (next : ℕ) → SuffixRead s (h .at) pre post dev next →
       Sound s (afterSuffix s h pre post dev next)

@@ -95,7 +95,7 @@ lead-within s =
     (λ e. omega (arith, byte-within s at (λ b. eqb (lowerOf b) (code "v")) refl e))
     (λ e. run-within (between blank blank) s)
 
--- the number behind the mark of the epoch n, which ends at `at`
+-- the number after the mark of the epoch n, which ends at `at`
 after-epoch-sound : (s : List ℕ) (from n at : ℕ) → NumberRead s from n at → at < length s → HeadSound s (afterEpoch s n (at + 1))
 unfolding afterEpoch
 after-epoch-sound s from n at r inside =

@@ -90,7 +90,7 @@ next-segment s from local at r room some =
       within = word-within s at (r .within);
     }
 
--- behind a separator the next segment begins
+-- after a separator the next segment begins
 behind : (s : List ℕ) (from : ℕ) (local : Local) (at next : ℕ) → SegmentsRead s from local at → at < next → next ≤ length s →
     SegmentsRead s (from + 1) local next
 behind s from local at next r h g = record {

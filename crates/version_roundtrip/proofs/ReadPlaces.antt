@@ -88,7 +88,7 @@ number-sound s at h = by-cond (λ x. NumberSound s at (placed at x)) (eqb count 
         by-cond (λ x. NumberSound s at (placed at (sized count x))) (ltb (valueFrom 0 (take count (drop at s))) (2 ^ 64))
         (λ f. digits-read s at h e (ltb-true _ _ f)) (λ f. tt)
 
--- a number behind a mark
+-- a number after a mark
 pub marked-sound : (mark : ℕ) (s : List ℕ) (at : ℕ) → eqb 0 mark ≡ false → NumberSound s (at + 1) (markedNumber mark s at)
 unfolding markedNumber
 marked-sound mark s at some =

@@ -1,4 +1,4 @@
--- What is read of the suffix of any text, rules 5 to 7: numbers of 64 bits, and parts that are written again with at most so many bytes
+-- What is read of the suffix of any text, rules 5 to 7: numbers of 64 bits, and parts that are written again with at most a number of bytes
 -- more: two for a pre-release (`c` as `rc0`), five for a post-release (`r` as `.post0`), two for a development release (`dev` as `.dev0`).
 -- Assumes nothing.
 use mathlib.Core.Path.{_≡_, refl}

@@ -9,7 +9,7 @@ use Rattle.version_parts.specs.declared.fields.MaybeNumber.{MaybeNumber}
 use Rattle.version_reading.specs.Value.{LocalSegment, number, text, Value}
 use Rattle.version_normal.specs.Normal.{epochText, preText, partText}
 
--- texts, each behind a dot
+-- texts, each after a dot
 abbrev pub dottedAll : List (List ℕ) → List ℕ
 dottedAll [] = []
 dottedAll (x ∷ xs) = code "." ∷ (x ++ dottedAll xs)
@@ -24,7 +24,7 @@ abbrev pub word : LocalSegment → List ℕ
 word (number n) = decimal n
 word (text bytes) = bytes
 
--- a label, behind a plus unless it is empty
+-- a label, after a plus unless it is empty
 abbrev pub labelText : List LocalSegment → List ℕ
 labelText [] = []
 labelText (x ∷ xs) = code "+" ∷ joinedAll (map word (x ∷ xs))

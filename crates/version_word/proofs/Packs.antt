@@ -57,7 +57,7 @@ module _ (a b c d : ℕ) (pre : Pre) (post dev : MaybeNumber) (p : Fitted) (f : 
         let suffix = is-fitted q (orZero (onlySuffix pre post dev)) (smallSuffix (onlySuffix pre post dev)) low h k in
         rw (numbers-are .0, suffix .0, numbers-are .1, suffix .1, m)
 
--- the sum fits into 64 bits: kind, then p behind it, then q
+-- the sum fits into 64 bits: kind, then p after it, then q
 module _ (pre : Pre) (post dev : MaybeNumber) (kind : ℕ) (e : kind ≡ kindOf pre post dev) where
   pub kind-fits : Width.Fits w64 (kind * 0x200000)
   kind-fits = record { fits = omega (arith, kind-digit pre post dev) }

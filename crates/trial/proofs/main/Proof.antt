@@ -1,4 +1,4 @@
--- `trial::main` ends: so many lists are left.
+-- `trial::main` ends: the lists that are left grow fewer.
 -- Assumes nothing.
 use mathlib.Core.Path.{_≡_}
 use Prim.Native.Nat.{_-_, _≤_}

@@ -1,4 +1,4 @@
--- `fragment_reader::hold::hold` meets its contract: the lump stands behind the bytes that came, and the count is capped.
+-- `fragment_reader::hold::hold` meets its contract: the lump stands after the bytes that came, and the count is capped.
 -- Assumes nothing.
 use borrow.Author.Needs.{needs}
 use Rattle.fragment_reader.proofs.hold.hold.Statement.{statement}

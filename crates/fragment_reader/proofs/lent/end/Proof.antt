@@ -1,4 +1,4 @@
--- `fragment_reader::lent::end` meets its contract: the mark is put behind what is held.
+-- `fragment_reader::lent::end` meets its contract: the mark is put after what is held.
 -- Assumes nothing.
 use borrow.Author.Needs.{needs}
 use Rattle.fragment_reader.proofs.Bytes.{count-near}

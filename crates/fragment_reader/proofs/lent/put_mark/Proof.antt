@@ -1,4 +1,4 @@
--- `fragment_reader::lent::put_mark` meets its contract: three stores behind the text.
+-- `fragment_reader::lent::put_mark` meets its contract: three stores after the text.
 -- Assumes nothing.
 use borrow.Author.Needs.{needs}
 use Rattle.fragment_rules.specs.Lent.{lent}

@@ -1,4 +1,4 @@
--- `fragment_reader::lent::take` meets its contract: behind the end mark nothing is taken, and before it the lump is held.
+-- `fragment_reader::lent::take` meets its contract: after the end mark nothing is taken, and before it the lump is held.
 -- Assumes nothing.
 use borrow.Author.Needs.{needs}
 use Rattle.fragment_reader.proofs.Bytes.{count-near}

@@ -1,4 +1,4 @@
--- `lines::input::slide` meets its contract: the first i bytes have been moved, and those behind are as they were.
+-- `lines::input::slide` meets its contract: the first i bytes have been moved, and those after are as they were.
 -- Assumes nothing.
 use mathlib.Core.Path.{_≡_}
 use mathlib.Core.List.{_++_}

@@ -1,4 +1,4 @@
--- `list_fold::end_number::clause_end` meets its contract: the end so many numbers on is always the same.
+-- `list_fold::end_number::clause_end` meets its contract: the end `left` numbers further on is always the same.
 -- Assumes nothing.
 use mathlib.Core.Path.{_≡_, refl}
 use Rattle.list_ends.specs.Number.{placeFrom}

@@ -1,4 +1,4 @@
--- `register_fit::guilt::is_outside` meets its contract: by what is left of the size behind the start.
+-- `register_fit::guilt::is_outside` meets its contract: by what is left of the size after the start.
 -- Assumes nothing.
 use Rattle.register_fit.proofs.Guilty.{outside-start, outside-end}
 use Rattle.register_fit.proofs.guilt.is_outside.Statement.{statement}

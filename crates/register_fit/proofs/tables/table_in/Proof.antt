@@ -1,4 +1,4 @@
--- `register_fit::tables::table_in` meets its contract: a part of what lies behind the start.
+-- `register_fit::tables::table_in` meets its contract: a part of what lies after the start.
 -- Assumes nothing.
 use borrow.Author.Needs.{needs}
 use Rattle.register_fit.proofs.Guilty.{part-behind}

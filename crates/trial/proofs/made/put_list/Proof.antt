@@ -1,4 +1,4 @@
--- `trial::made::put_list` ends: so many clauses are left.
+-- `trial::made::put_list` ends: the clauses that are left grow fewer.
 -- Assumes nothing.
 use mathlib.Core.Path.{_≡_}
 use lib.ListN.{length}

@@ -1,4 +1,4 @@
--- `trial::made::put_release` ends: so many numbers are left.
+-- `trial::made::put_release` ends: the numbers that are left grow fewer.
 -- Assumes nothing.
 use mathlib.Core.Path.{_≡_}
 use lib.ListN.{length}

@@ -1,4 +1,4 @@
--- `trial::tally::one_list` ends: so many versions are left.
+-- `trial::tally::one_list` ends: the versions that are left grow fewer.
 -- Assumes nothing.
 use mathlib.Core.Path.{_≡_}
 use lib.ListN.{length}

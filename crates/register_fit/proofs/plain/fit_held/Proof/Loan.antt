@@ -1,4 +1,4 @@
--- The walk of the MIR of `fit_held` from behind the call of `capped` to the exit.
+-- The walk of the MIR of `fit_held` from after the call of `capped` to the exit.
 -- The array is copied out of the struct, and its first entries are lent for a lifetime that is made for the call of `fitting`; when that is over, the array is room again (`Lending` of entries).
 --     copies   from the array's copy; ends in `lends`
 --     lends    from the call of `fitting`
@@ -140,13 +140,13 @@ module _ {M : Type 1} (𝓤 : URA M) (H : Heap 𝓤) (A : Atoms 𝓤) (W : Given
         lft-new ! tt (λ α. move ! (2 ∷ []) $
         use1 W (later (some (λ (γ : GName). ‵ (Own 𝓤 H A W mem′ run κ κ′ q q′ d t α (s γ)) ⊛ ‵ (flent (α ∷ []) (Part 𝓤 H A W E.the-row 65 (h .list) l₅ k (α ∷ []) l)) ⊛ ‵ (Behind 𝓤 H A W E.the-row 65 (h .list) l₅ k (α ∷ []) l))))
         (lends-part 𝓤 H A W E.the-row 65 (h .list) l₅ k (α ∷ []) l (named 0) room) $ await ! tt $ pick ! (λ γ. split3 ! $
-        -- [what the slice owns; the lender's part; the elements behind; its token; what the two own; _7; …; _6; …; that _5 dies; _4; …; _3; …; _2; …; _1; …; room for _0; …; the two's tokens]
+        -- [what the slice owns; the lender's part; the elements after; its token; what the two own; _7; …; _6; …; that _5 dies; _4; …; _3; …; _2; …; _1; …; room for _0; …; the two's tokens]
         move ! (3 ∷ 20 ∷ []) $ join ! $ move ! (1 ∷ 0 ∷ 4 ∷ []) $ use3 W (raw (Fitting 𝓤 H A mem′ run .pre (to-fitting 𝓤 H A W mem′ run κ κ′ q q′ d t α (s γ)))) (asks-fitting 𝓤 H A W mem′ run κ κ′ q q′ d t α (s γ)) $
         calls-at ! fm (Fitting 𝓤 H A mem′ run) known-fitting (to-fitting 𝓤 H A W mem′ run κ κ′ q q′ d t α (s γ))
         (and-then ! (load ! (from ! (stop !)) (look ! 3 refl)) (and-then ! (load ! (from ! (stop !)) (look ! 12 refl)) (and-then ! (load ! (from ! (stop !)) (look ! 10 refl)) (no-more !)))) (λ u.
         use1 W (later (some (λ (r : Fit). ((‵ (flft (α ∷ []) fullShare) ⊛ Tokens 𝓤 κ q κ′ q′) ⊛ ‵ (S.the-row .own r (u ∷ []))) ⊛ raw (ensured 𝓤 H A fitting.ended (fitting.clauses 𝓤 H A mem′ run) (α ∷ [], (κ, (κ′, tt))) (s γ, (d, (t, tt))) tt r)))) (id⊢ 𝓤 _) $ await ! tt $ pick ! (λ r.
         split ! $ move ! (1 ∷ []) $ use1 W (raw (fact 𝓤 (r ≡ fitOf es (now d) (now t)))) (fitting-said 𝓤 H A W mem′ run κ κ′ q q′ d t α (s γ) r) $ heard ! (r ≡ fitOf es (now d) (now t)) (λ told. split ! $ move ! (1 ∷ []) $
-        -- [the result; the tokens; the lender's part; the elements behind; _7; …; _6; …; that _5 dies; _4; …; _3; …; _2; …; _1; …; room for _0; …]
+        -- [the result; the tokens; the lender's part; the elements after; _7; …; _6; …; that _5 dies; _4; …; _3; …; _2; …; _1; …; room for _0; …]
         peeks ! S.the-row (Is S.the-row) (shows 𝓤 H A S.the-row) r (u ∷ []) (λ is.
         land ! (from ! (stop !)) (init ! 17 refl (EL.lawful S.the-type S′.the-laws 𝓤 H A W tt .typed r _ is .0)) $
         -- the lifetime is ended, and the array is room again
