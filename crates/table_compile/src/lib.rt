@@ -1,15 +1,14 @@
 // Compiling a clause list into a range table.
-mod number;
 mod print;
 mod record;
 
 use answers::Measured;
-use list_fold::clauses::fold;
+use list_fold::fold::fold;
 use print::print_table;
 ghost use Rattle.table_compile.specs.Compiled.{Compiled};
 
 // Writes the table of a list to the front of a buffer. A refused list, or a buffer that is too short, leaves the buffer as it was, and success
-// what lies behind the table.
+// what lies after the table.
 pub fn compile(list: &[u8], buffer: &mut [u8]) -> Measured
     ensures { λ r. ⌜ Compiled (now (list .entry)) (now (buffer .entry)) (now (buffer .exit)) r ⌝ }
 {
