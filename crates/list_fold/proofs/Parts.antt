@@ -25,7 +25,7 @@ paired-more [] (y ∷ l) lo hi h = absurd (omega arith)
 paired-more (x ∷ k) [] lo hi h = absurd (omega arith)
 paired-more (x ∷ k) (y ∷ l) lo hi h = ap (λ (T : List (Range ℕ)). range x y ∷ T) (paired-more k l lo hi (omega arith))
 
-paired-suc : (k l : List ℕ) (i : ℕ) → i < length k → i < length l
+pub paired-suc : (k l : List ℕ) (i : ℕ) → i < length k → i < length l
     → paired (take (suc i) k) (take (suc i) l) ≡ paired (take i k) (take i l) ++ (range (getD k i 0) (getD l i 0) ∷ [])
 paired-suc k l i h j =
     rw (take-suc k i 0 h, take-suc l i 0 j)

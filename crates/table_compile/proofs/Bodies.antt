@@ -1,6 +1,6 @@
--- The record of one end, as it is written.
+-- The record of one end, as it is written, and that its body is the text of the end's place.
 -- Assumes nothing.
-use mathlib.Core.Path.{_≡_, sym}
+use mathlib.Core.Path.{_≡_, refl, sym}
 use mathlib.Core.List.{List, []}
 use Prim.Native.Nat.{ℕ, _^_, _<_}
 use native.Mathlib.Omega.{arith}
@@ -9,11 +9,31 @@ use Rattle.decimal.specs.Put.{Wrote, Put}
 use Rattle.decimal.proofs.Puts.{nothing}
 use Rattle.records.specs.Record.{twoBytes, headText, recordText}
 use Rattle.records.proofs.Writing.{two-long, record-put, measured-put}
+use Rattle.version_reading.specs.Value.{valueOf}
 use Rattle.version_normal.specs.Normal.{versionText}
+use Rattle.version_roundtrip.specs.Text.{valueText}
+use Rattle.version_roundtrip.proofs.Texts.{text-of-value}
+use Rattle.list_ends.specs.declared.end.Side.{Side}
 use Rattle.list_ends.specs.declared.end.Side.the-variants.{Bottom, Top, Before, After}
 use Rattle.list_ends.specs.declared.end.End.{End}
 use Rattle.table_reading.specs.Kind.{rangeCount}
-use Rattle.table_compile.specs.Body.{endText}
+use Rattle.list_ends.specs.Cut.{Place}
+use Rattle.list_ends.specs.End.{placeAt, EndIs}
+use Rattle.table_reading.specs.Text.{bodyText}
+use Rattle.table_compile.specs.Body.{sideText, endText}
+
+-- the text of the fields is the text of the place
+pub end-body : {p : Place} (e : End) → EndIs p 16 e → endText e ≡ bodyText p
+end-body e h = rw (← h .is) (go (e .side))
+  where
+    text : versionText [] (e .version) ≡ valueText (valueOf [] (e .version))
+    text = text-of-value [] (e .version) (h .few) (h .size)
+
+    go : (side : Side) → sideText side (e .version) ≡ bodyText (placeAt side (e .version))
+    go Bottom = refl
+    go Top = refl
+    go Before = text
+    go After = text
 
 -- the ways of `put_body`
 module _ (e : End) (a : List ℕ) (i : ℕ) where

@@ -12,14 +12,14 @@ use Rattle.answers.specs.Printed.{Printed}
 use Rattle.ranges.specs.Range.{Range}
 use Rattle.ranges.specs.Map.{mapRange}
 use Rattle.answers.specs.declared.Measured.the-variants.{Length, Refused as NotRead}
-use Rattle.list_clauses.specs.List.{Listing, refused, clauses, listOf, countFrom, checked}
+use Rattle.list_clauses.specs.List.{Listing, refused, clauses, listOf, countOf, checked}
 use Rattle.list_ends.specs.Number.{placeNumber}
 use Rattle.list_ends.specs.Shape.{rangesOf}
-use Rattle.list_fold.specs.declared.clauses.Folded.{Folded}
-use Rattle.list_fold.specs.Ranges.{rangesIn, slots, packed}
-use Rattle.list_fold.specs.Numbered.{numbered, FoldedAs}
+use Rattle.list_fold.specs.declared.fold.Folded.{Folded}
+use Rattle.list_fold.specs.Ranges.{rangesIn, withZeros, packed}
+use Rattle.list_fold.specs.Numbered.{numbered}
+use Rattle.list_fold.specs.Folded.{FoldedAs}
 use Rattle.list_fold.proofs.Packed.{held-count, held}
-use Rattle.list_fold.proofs.Folds.{accepted-short}
 use Rattle.list_fold.proofs.Numbers.{numbered-places}
 use Rattle.table_reading.specs.Text.{tableText}
 use Rattle.table_compile.specs.Said.{saidBy}
@@ -27,11 +27,8 @@ use Rattle.table_compile.specs.Compiled.{answerTo, filledTo, Compiled}
 use Rattle.table_compile.proofs.Sizes.{table-within}
 
 module _ (s : List ℕ) (f : Folded) (h : FoldedAs s f) where
-  pub list-short : (n : ℕ) → f .checked ≡ Length n → length s ≤ 1024
-  list-short n e = accepted-short s n (sym e ∙ h .verdict)
-
   -- the arrays are as long as they have to be
-  room : (g : Range ℕ → ℕ) (array : List ℕ) → array ≡ slots (map g (numbered s)) → f .ranges .count ≤ length array
+  room : (g : Range ℕ → ℕ) (array : List ℕ) → array ≡ withZeros (map g (numbered s)) → f .ranges .count ≤ length array
   room g array e =
       let all = length-append (map g (numbered s)) (replicate (34 - length (map g (numbered s))) 0) in
       rw e (omega (arith, all, length-map (numbered s) g, held-count (numbered s) (h .ranges .is)))
@@ -49,7 +46,7 @@ module _ (s : List ℕ) (f : Folded) (h : FoldedAs s f) where
   unfolding rangesIn
   said-are = ap (map (mapRange (placeNumber s))) (held (h .ranges))
 
-  fits-by : (l : Listing) (n : ℕ) → listOf s ≡ l → Length n ≡ countFrom 0 l →
+  fits-by : (l : Listing) (n : ℕ) → listOf s ≡ l → Length n ≡ countOf l →
       length (tableText (map (mapRange (placeNumber s)) (numbered s))) ≤ 862 * length (numbered s) + 6
   fits-by (refused number place) n g e = let impossible : _≡_ {A = ℕ} 0 1 = cc in absurd (omega arith)
   fits-by (clauses cs) n g e =
@@ -63,7 +60,7 @@ module _ (s : List ℕ) (f : Folded) (h : FoldedAs s f) where
   unfolding checked
   table-fits n e = rw said-are (omega (arith, fits-by (listOf s) n refl (sym e ∙ h .verdict), held-count (numbered s) (h .ranges .is)))
 
-  refused-by : (l : Listing) (x : Refusal) (buf : List ℕ) → NotRead x ≡ countFrom 0 l → (Refused x ≡ answerTo l buf) × (buf ≡ filledTo l buf)
+  refused-by : (l : Listing) (x : Refusal) (buf : List ℕ) → NotRead x ≡ countOf l → (Refused x ≡ answerTo l buf) × (buf ≡ filledTo l buf)
   refused-by (refused number place) x buf e = let same : x ≡ record { number = number; place = place } = cc in (ap Refused same, refl)
   refused-by (clauses cs) x buf e = let impossible : _≡_ {A = ℕ} 0 1 = cc in absurd (omega arith)
 
@@ -71,7 +68,7 @@ module _ (s : List ℕ) (f : Folded) (h : FoldedAs s f) where
   unfolding checked
   compile-refused x buf e = let both = refused-by (listOf s) x buf (sym e ∙ h .verdict) in record { answers = both .0; leaves = both .1 }
 
-  said-by : (l : Listing) (n : ℕ) (old new : List ℕ) (r : Measured) → listOf s ≡ l → Length n ≡ countFrom 0 l →
+  said-by : (l : Listing) (n : ℕ) (old new : List ℕ) (r : Measured) → listOf s ≡ l → Length n ≡ countOf l →
       Printed (tableText (map (mapRange (placeNumber s)) (numbered s))) old new r → (r ≡ answerTo l old) × (new ≡ filledTo l old)
   said-by (refused number place) n old new r g e p = let impossible : _≡_ {A = ℕ} 0 1 = cc in absurd (omega arith)
   said-by (clauses cs) n old new r g e p = let q = rw (numbered-places s cs g) at p in (q .answers, q .leaves)

@@ -1,12 +1,11 @@
 -- The ranges of a table, as they are written one by one.
 -- Assumes nothing.
 use mathlib.Core.Path.{_≡_, refl, sym, _∙_, ap}
-use mathlib.Core.List.{List, [], _∷_, _++_, map, append-assoc, append-nil}
+use mathlib.Core.List.{List, [], _∷_, _++_, map, map-append, append-assoc, append-nil}
 use Prim.Native.Nat.{ℕ, suc, _+_, _^_, _≤_, _<_, min}
 use native.Mathlib.Numerals.{add-one}
 use native.Mathlib.Omega.{arith}
 use lib.ListN.{length, take, getD, length-take, length-map}
-use lib.Seq.{take-suc}
 use Rattle.answers.specs.declared.Measured.the-variants.{Length}
 use Rattle.answers.specs.Printed.{Printed}
 use Rattle.decimal.specs.Put.{Wrote, Put}
@@ -16,14 +15,15 @@ use Rattle.ranges.specs.Range.{Range}
 use Rattle.ranges.specs.Map.{mapRange}
 use Rattle.list_ends.specs.declared.end.End.{End}
 use Rattle.list_ends.specs.Cut.{Place}
-use Rattle.list_ends.specs.End.{placeOf}
-use Rattle.list_ends.specs.Number.{endNumber, placeNumber}
 use Rattle.table_reading.specs.Kind.{rangeCount}
+use Rattle.list_ends.specs.End.{placeOf, EndIs}
+use Rattle.list_ends.specs.Number.{placeNumber}
 use Rattle.table_reading.specs.Text.{lowerKind, upperKind, lowerText, upperText, rangesText, tableText}
 use Rattle.table_compile.specs.Body.{endText}
 use Rattle.list_fold.specs.Ranges.{paired}
+use Rattle.list_fold.proofs.Parts.{paired-suc}
 use Rattle.table_compile.specs.Said.{saidBy}
-use Rattle.table_compile.proofs.Shaped.{same-body}
+use Rattle.table_compile.proofs.Bodies.{end-body}
 
 abbrev between : Place → Place → Range Place
 between lo hi = record { lo = lo; hi = hi }
@@ -36,30 +36,17 @@ unfolding rangesText
 ranges-snoc [] lo hi = rw append-nil
 ranges-snoc (r ∷ T) lo hi = rw (ranges-snoc T lo hi) (simp append-assoc)
 
-paired-snoc : (ls hs : List ℕ) (a b : ℕ) → length ls ≡ length hs →
-    paired (ls ++ (a ∷ [])) (hs ++ (b ∷ [])) ≡ paired ls hs ++ (record { lo = a; hi = b } ∷ [])
-paired-snoc [] [] a b e = refl
-paired-snoc [] (y ∷ hs) a b e = absurd (omega arith)
-paired-snoc (x ∷ ls) [] a b e = absurd (omega arith)
-paired-snoc (x ∷ ls) (y ∷ hs) a b e = ap (λ l. record { lo = x; hi = y } ∷ l) (paired-snoc ls hs a b (omega arith))
-
 paired-length : (ls hs : List ℕ) → length (paired ls hs) ≡ min (length ls) (length hs)
 paired-length [] hs = omega arith
 paired-length (x ∷ ls) [] = omega arith
 paired-length (x ∷ ls) (y ∷ hs) = omega (arith, paired-length ls hs)
 
-map-snoc : {A B : Type 0} (f : A → B) (l : List A) (x : A) → map f (l ++ (x ∷ [])) ≡ map f l ++ (f x ∷ [])
-map-snoc f [] x = refl
-map-snoc f (y ∷ l) x = ap (λ m. f y ∷ m) (map-snoc f l x)
-
 module _ (s lows highs : List ℕ) where
   said-snoc : (i : ℕ) → i < length lows → i < length highs →
       saidBy s lows highs (suc i) ≡ saidBy s lows highs i ++ (between (placeNumber s (getD lows i 0)) (placeNumber s (getD highs i 0)) ∷ [])
   said-snoc i l h =
-      let same : length (take i lows) ≡ length (take i highs) =
-      omega (arith, length-take i lows, length-take i highs) in
-      rw (take-suc lows i 0 l, take-suc highs i 0 h, paired-snoc (take i lows) (take i highs) (getD lows i 0) (getD highs i 0) same)
-      (map-snoc (mapRange (placeNumber s)) (paired (take i lows) (take i highs)) _)
+      ap (map (mapRange (placeNumber s))) (paired-suc lows highs i l h)
+      ∙ map-append (mapRange (placeNumber s)) (paired (take i lows) (take i highs)) _
 
   pub ranges-start : {a : List ℕ} {i : ℕ} → length a < 2 ^ 64 → i < 2 ^ 64 → Wrote a i (rangesText (saidBy s lows highs 0)) a i
   unfolding rangesText
@@ -91,15 +78,13 @@ module _ (s lows highs : List ℕ) where
       rw size (then p q)
 
 -- one range, by the numbers of its ends
-module _ (s : List ℕ) (low high : ℕ) (lower upper : End) (e : lower ≡ endNumber s low) (f : upper ≡ endNumber s high) where
+module _ (s : List ℕ) (low high : ℕ) (lower upper : End) (e : EndIs (placeNumber s low) 16 lower) (f : EndIs (placeNumber s high) 16 upper) where
   pub range-put : (lk uk i j k : ℕ) (a b c : List ℕ) → lk ≡ lowerKind (placeOf lower) → uk ≡ upperKind (placeOf upper) →
       Wrote a i (recordText lk (endText lower)) b j → Wrote b j (recordText uk (endText upper)) c k →
       Wrote a i (lowerText (placeNumber s low) ++ upperText (placeNumber s high)) c k
   range-put lk uk i j k a b c g h p q =
-      let lower-is : recordText lk (endText lower) ≡ lowerText (placeNumber s low) =
-      rw (g, e) (ap (recordText (lowerKind (placeNumber s low))) (same-body s low)) in
-      let upper-is : recordText uk (endText upper) ≡ upperText (placeNumber s high) =
-      rw (h, f) (ap (recordText (upperKind (placeNumber s high))) (same-body s high)) in
+      let lower-is : recordText lk (endText lower) ≡ lowerText (placeNumber s low) = rw (g, e .is, end-body lower e) in
+      let upper-is : recordText uk (endText upper) ≡ upperText (placeNumber s high) = rw (h, f .is, end-body upper f) in
       then (retext lower-is p) (retext upper-is q)
 
 -- a table that has room is written with no first run: the run itself tells its length

@@ -1,10 +1,9 @@
 // Compiling a clause list into a range table.
-mod number;
 mod print;
 mod record;
 
 use answers::Measured;
-use list_fold::clauses::fold;
+use list_fold::fold::fold;
 use print::print_table;
 ghost use Rattle.table_compile.specs.Compiled.{Compiled};
 

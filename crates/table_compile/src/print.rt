@@ -1,11 +1,11 @@
 // Writing a table whose ranges are given by the numbers of their ends.
-use crate::number::end_number;
 use crate::record::lower_kind;
 use crate::record::put_count;
 use crate::record::put_end;
 use crate::record::upper_kind;
 use answers::Measured;
 use answers::Refusal;
+use list_fold::end_number::end_number;
 ghost use mathlib.Core.List.{_++_};
 ghost use Prim.Native.Nat.{_+_, _*_, _≤_};
 ghost use lib.ListN.{length};
@@ -16,7 +16,6 @@ ghost use Rattle.table_reading.specs.Text.{lowerText, upperText, rangesText, ta
 ghost use Rattle.table_compile.specs.Said.{saidBy};
 
 fn put_range(buf: &mut [u8], at: usize, list: &[u8], low: u8, high: u8) -> usize
-    requires { ⌜ length (now list) ≤ 1024 ⌝ }
     ensures { λ r. ⌜ Put 2098658 (now (buf .entry)) at (lowerText (placeNumber (now (list .entry)) low) ++ upperText (placeNumber (now (list .entry)) high)) (now (buf .exit)) r ⌝ }
 {
     let lower = end_number(list, low as usize);
@@ -33,7 +32,7 @@ fn put_ranges(
     highs: &[u8],
     count: usize,
 ) -> usize
-    requires { ⌜ (length (now list) ≤ 1024) × (count ≤ 17) × (count ≤ length (now lows)) × (count ≤ length (now highs)) ⌝ }
+    requires { ⌜ (count ≤ 17) × (count ≤ length (now lows)) × (count ≤ length (now highs)) ⌝ }
     ensures { λ r. ⌜ Put 35677186 (now (buf .entry)) at (rangesText (saidBy (now (list .entry)) (now (lows .entry)) (now (highs .entry)) count)) (now (buf .exit)) r ⌝ }
 {
     let mut next = at;
@@ -53,7 +52,7 @@ fn put_table(
     highs: &[u8],
     count: usize,
 ) -> usize
-    requires { ⌜ (length (now list) ≤ 1024) × (count ≤ 17) × (count ≤ length (now lows)) × (count ≤ length (now highs)) ⌝ }
+    requires { ⌜ (count ≤ 17) × (count ≤ length (now lows)) × (count ≤ length (now highs)) ⌝ }
     ensures { λ r. ⌜ Put 35677192 (now (buf .entry)) at (tableText (saidBy (now (list .entry)) (now (lows .entry)) (now (highs .entry)) count)) (now (buf .exit)) r ⌝ }
 {
     let first = put_count(buf, at, count);
@@ -62,7 +61,7 @@ fn put_table(
 
 // Writes the table to the front of a buffer, or says how much room it needs: a first run over no buffer tells.
 fn print_measured(list: &[u8], lows: &[u8], highs: &[u8], count: usize, buf: &mut [u8]) -> Measured
-    requires { ⌜ (length (now list) ≤ 1024) × (count ≤ 17) × (count ≤ length (now lows)) × (count ≤ length (now highs)) ⌝ }
+    requires { ⌜ (count ≤ 17) × (count ≤ length (now lows)) × (count ≤ length (now highs)) ⌝ }
     ensures { λ r. ⌜ Printed (tableText (saidBy (now (list .entry)) (now (lows .entry)) (now (highs .entry)) count)) (now (buf .entry)) (now (buf .exit)) r ⌝ }
 {
     let mut none = [0u8; 0];
@@ -85,7 +84,7 @@ pub(crate) fn print_table(
     count: usize,
     buf: &mut [u8],
 ) -> Measured
-    requires { ⌜ (length (now list) ≤ 1024) × (count ≤ 17) × (count ≤ length (now lows)) × (count ≤ length (now highs)) ⌝ }
+    requires { ⌜ (count ≤ 17) × (count ≤ length (now lows)) × (count ≤ length (now highs)) ⌝ }
     requires { ⌜ length (tableText (saidBy (now list) (now lows) (now highs) count)) ≤ 862 * count + 6 ⌝ }
     ensures { λ r. ⌜ Printed (tableText (saidBy (now (list .entry)) (now (lows .entry)) (now (highs .entry)) count)) (now (buf .entry)) (now (buf .exit)) r ⌝ }
 {

@@ -1,6 +1,6 @@
 -- `table_compile::compile` meets its contract: the list's refusal, or its table.
 -- Assumes nothing.
-use Rattle.table_compile.proofs.Compiling.{list-short, lows-room, highs-room, table-fits, compile-refused, compile-printed}
+use Rattle.table_compile.proofs.Compiling.{lows-room, highs-room, table-fits, compile-refused, compile-printed}
 use borrow.Author.Needs.{needs}
 use Rattle.table_compile.proofs.compile.Statement.{statement}
 use Rattle.table_compile.proofs.compile.Tie as tie
@@ -13,7 +13,7 @@ compile-spec =
     (λ c. search needs)
     (λ c. search needs)
     (λ c. search needs)
-    (λ c κs. ((search list-short, search needs, search lows-room, search highs-room), search table-fits))
+    (λ c κs. ((search needs, search lows-room, search highs-room), search table-fits))
     (λ c. search needs)
     (λ c. search needs)
     (λ c. search compile-printed)
