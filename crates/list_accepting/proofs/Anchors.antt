@@ -19,12 +19,7 @@ use Rattle.version_order.specs.Versions.{compareRelease, compareKey, comparePub
 use Rattle.version_prefix.specs.Prefix.{prefixMatches}
 use Rattle.answers.specs.declared.YesNo.{YesNo}
 use Rattle.answers.specs.declared.YesNo.the-variants.{Yes, No, First as OfList, Second as OfVersion}
-use Rattle.list_clauses.specs.Operator.{orderOf, operatorOf}
-use Rattle.bytes.specs.Bytes.{indexAfter, indexOf}
-use Rattle.list_clauses.specs.Trim.{trimmedLength}
-use Rattle.list_clauses.specs.Clause.{judged, patternClause, clauseOf}
-use Rattle.list_clauses.specs.Step.{commaAfter, partEnd, partStart, partAt, clauseIn, stepAt}
-use Rattle.list_clauses.specs.List.{clausesFrom, listOf}
+use Rattle.list_clauses.proofs.Computed.{computedList}
 use Rattle.list_accepting.specs.Accept.{holds, accepted}
 
 record Point : Type 0 where
@@ -62,9 +57,8 @@ points =
 
 -- the answers that a wrong definition would change
 pub worked : map (λ p. accepted (ascii (p .list)) (ascii (p .version))) points ≡ map (λ p. p .answer) points
-unfolding accepted holds listOf clausesFrom stepAt clauseIn partAt partStart partEnd commaAfter indexOf indexAfter clauseOf patternClause judged trimmedLength operatorOf
-    orderOf prefixMatches comparePublic compareKey compareRelease valueOf versionOf patternAs starred headOf headAt leadEnd releaseFrom afterEpoch
-    afterRelease suffixAt preAt postAt spelledPost devAt afterSuffix labelAt segmentsFrom wordEnd separatorEnd numberAt markedNumber
-    numberOrZero preSpelling postSpelling devSpelling startsWith leadingOf numberOf valueFrom digitOf front between classOf
-    lowerOf
+unfolding computedList accepted holds prefixMatches comparePublic compareKey compareRelease valueOf versionOf patternAs starred headOf headAt leadEnd
+    releaseFrom afterEpoch afterRelease suffixAt preAt postAt spelledPost devAt afterSuffix labelAt segmentsFrom wordEnd separatorEnd numberAt
+    markedNumber numberOrZero preSpelling postSpelling devSpelling startsWith leadingOf numberOf valueFrom digitOf front between
+    classOf lowerOf
 worked = refl

@@ -9,4 +9,5 @@ pub mod Origins
 pub mod Faults
 pub mod Rows
 pub mod Exactly
+pub mod Computed
 pub mod Unique

@@ -45,7 +45,7 @@ module _ (s : List ℕ) (short : length s ≤ longest) where
   unfolding stepAt clauseIn
   is-read start = sym (no-lt longest (length s) _ short refl)
 
-  part-short : (start : ℕ) → length (partBytes s start) ≤ longest
+  pub part-short : (start : ℕ) → length (partBytes s start) ≤ longest
   part-short start =
       omega (arith, length-take (partEnd s start - partStart s start) (drop (partStart s start) s), length-drop (partStart s start) s)
 

@@ -18,12 +18,7 @@ use Rattle.version_reading.specs.Reading.{starred, afterRelease, afterSuffix, p
 use Rattle.version_reading.specs.Value.{valueOf}
 use Rattle.version_order.specs.Versions.{compareRelease, compareKey, comparePublic}
 use Rattle.version_prefix.specs.Prefix.{nextPrefix}
-use Rattle.bytes.specs.Bytes.{indexAfter, indexOf}
-use Rattle.list_clauses.specs.Operator.{orderOf, operatorOf}
-use Rattle.list_clauses.specs.Trim.{trimmedLength}
-use Rattle.list_clauses.specs.Clause.{judged, patternClause, clauseOf}
-use Rattle.list_clauses.specs.Step.{commaAfter, partEnd, partStart, partAt, clauseIn, stepAt}
-use Rattle.list_clauses.specs.List.{clausesFrom, listOf}
+use Rattle.list_clauses.proofs.Computed.{computedList}
 use Rattle.list_ends.specs.Number.{placeFrom, placeNumber}
 use Rattle.list_fold.specs.Ranges.{range}
 use Rattle.list_fold.specs.Numbered.{numbered}
@@ -55,9 +50,8 @@ points =
     ∷ []
 
 pub points-hold : map (λ p. numbered (ascii (p .list))) points ≡ map (λ p. p .ranges) points
-unfolding patternAs headOf headAt afterEpoch leadEnd releaseFrom starred afterRelease suffixAt preAt postAt spelledPost devAt afterSuffix
+unfolding computedList patternAs headOf headAt afterEpoch leadEnd releaseFrom starred afterRelease suffixAt preAt postAt spelledPost devAt afterSuffix
     labelAt segmentsFrom wordEnd separatorEnd numberAt markedNumber numberOrZero preSpelling postSpelling devSpelling
     startsWith leadingOf numberOf valueFrom digitOf front between classOf lowerOf valueOf compareRelease compareKey comparePublic nextPrefix
-    orderOf operatorOf trimmedLength judged patternClause clauseOf indexOf indexAfter commaAfter partEnd partStart partAt clauseIn stepAt clausesFrom listOf
     placeFrom placeNumber numbered
 points-hold = refl

@@ -16,10 +16,7 @@ use Rattle.version_reading.specs.Value.{listed, labelFrom, valueOf}
 use Rattle.version_roundtrip.specs.Text.{valueText}
 use Rattle.version_roundtrip.proofs.Extremes.{computed}
 use Rattle.version_order.specs.Versions.{compareRelease, compareKey, comparePublic}
-use Rattle.list_clauses.specs.Operator.{orderOf, operatorOf}
-use Rattle.list_clauses.specs.Trim.{trimmedLength, beforeComma}
-use Rattle.list_clauses.specs.Clause.{judged, patternClause, trimmedClause, clauseOf}
-use Rattle.list_clauses.specs.List.{commaAfter, clauseAt, clausesFrom, listOf}
+use Rattle.list_clauses.proofs.Computed.{computedList}
 use Rattle.list_accepting.specs.Accept.{holds, accepted}
 use Rattle.list_ends.specs.Shape.{rangesOf}
 use Rattle.records.specs.Record.{twoBytes, recordText}
@@ -70,18 +67,16 @@ three = ascii "7 >=4.2" ∷ ascii "9 <5" ∷ ascii "8 ==1" ∷ []
 -- a fourth line: its own identifier, one that is taken, none, and a list that is refused, at a place of the list
 pub fourth-line : map (λ s. refusalBehind three (ascii s)) ("10 >1" ∷ "09 >1" ∷ "65536 >1" ∷ "10 >1,,<2" ∷ [])
     ≡ refusal 0 0 ∷ refusal 32 0 ∷ refusal 31 0 ∷ refusal 12 3 ∷ []
-unfolding computed starred idOf idSaid listIn indexOf indexAfter taken orderOf operatorOf trimmedLength beforeComma judged patternClause trimmedClause
-    clauseOf commaAfter clauseAt clausesFrom listOf
+unfolding computed computedList starred idOf idSaid listIn taken
 fourth-line = refl
 
 pub in-their-order : map (λ s. acceptors three (ascii s)) ("4.3" ∷ "5" ∷ "1" ∷ "x" ∷ []) ≡ (7 ∷ 9 ∷ []) ∷ (7 ∷ []) ∷ (9 ∷ 8 ∷ []) ∷ [] ∷ []
-unfolding computed starred listed labelFrom valueOf compareRelease compareKey comparePublic idOf idSaid listIn indexOf indexAfter acceptors orderOf
-    operatorOf trimmedLength beforeComma judged patternClause trimmedClause clauseOf commaAfter clauseAt clausesFrom listOf holds accepted
+unfolding computed computedList starred listed labelFrom valueOf compareRelease compareKey comparePublic idOf idSaid listIn acceptors holds
+    accepted
 in-their-order = refl
 
 -- a table of 17 bytes, with room for it and with a byte too little
 pub first-line : map (λ n. entered (replicate n 0) emptyShelf (ascii "7 >=4.2") .refusal) (17 ∷ 16 ∷ []) ≡ refusal 0 0 ∷ refusal 11 17 ∷ []
-unfolding computed starred listed labelFrom valueOf valueText compareRelease compareKey comparePublic idOf idSaid listIn indexOf indexAfter orderOf
-    operatorOf trimmedLength beforeComma judged patternClause trimmedClause clauseOf commaAfter clauseAt clausesFrom listOf rangesOf twoBytes
+unfolding computed computedList starred listed labelFrom valueOf valueText compareRelease compareKey comparePublic idOf idSaid listIn rangesOf twoBytes
     recordText rangesText tableText answer filled heldOf entriesIn has emptyShelf entered
 first-line = refl
