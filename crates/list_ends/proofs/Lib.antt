@@ -1,5 +1,4 @@
 pub mod Anchors
-pub mod Sides
 pub mod Given
 pub mod Nexts
 pub mod Meanings

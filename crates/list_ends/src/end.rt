@@ -1,10 +1,7 @@
 // One end of a range.
-use order::Order;
-use version_compare::version::compare_public;
 use version_parts::fields::Version;
 ghost use mathlib.Core.Path.{_≡_};
-ghost use Rattle.list_ends.specs.Cut.{lePlace};
-ghost use Rattle.list_ends.specs.End.{levelOf, sideOf, placeOf, bottom, topmost};
+ghost use Rattle.list_ends.specs.End.{levelOf, sideOf, bottom, topmost};
 
 // Below all versions, above all, right before a version, or right after it.
 pub enum Side {
@@ -61,29 +58,5 @@ pub fn side_of(side: Side) -> u64
         Side::Top => 0,
         Side::Before => 0,
         Side::After => 1,
-    }
-}
-
-// By place: below all, then at versions, then above all. At equal versions, before stands below after.
-pub fn at_most(a: End, b: End) -> bool
-    ensures { λ r. ⌜ r ≡ lePlace (placeOf a) (placeOf b) ⌝ }
-{
-    let one = a.side;
-    let other = b.side;
-    let low = level_of(one);
-    let high = level_of(other);
-    if low != high {
-        return low <= high;
-    }
-    if low != 1 {
-        return true;
-    }
-    let v = a.version;
-    let w = b.version;
-    let order = compare_public(v, w);
-    match order {
-        Order::Less => true,
-        Order::Equal => side_of(one) <= side_of(other),
-        Order::Greater => false,
     }
 }

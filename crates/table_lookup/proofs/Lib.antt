@@ -1,2 +1,5 @@
-pub mod PlainEnds
-pub mod PlainSearch
+pub mod Compared
+pub mod Bodies
+pub mod Rising
+pub mod Searching
+pub mod Lookups

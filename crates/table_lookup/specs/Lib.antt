@@ -1,2 +1,3 @@
-pub mod PlainEnd
+pub mod Rows
+pub mod Ends
 pub mod Lookup

@@ -1,42 +1,42 @@
-// Looking a version up in a table, quickly where its ends and the version are plain: what the crate `table` answers, for less.
-mod plain_end;
-mod plain_end_at;
-mod plain_search;
+// Looking a version up in a table. The version and the table's ends are rows of numbers, which compare as the versions do.
+mod end;
+mod end_at;
+pub mod search;
 
-use crate::plain_end::PlainEnd;
-use crate::plain_search::Quick;
-use crate::plain_search::search_plainly;
+use crate::search::Searched;
+use crate::search::search_table;
 use answers::YesNo;
-use list_ends::end::Side;
-use table_reading::lookup::judge;
-use version_reading::plain::read_plain;
 use version_reading::text::Verdict;
+use version_rows::read::read_row;
 ghost use mathlib.Core.Path.{_≡_};
-ghost use Rattle.table_reading.specs.Lookup.{looked};
-ghost use Rattle.table_lookup.specs.Lookup.{LookedPlainly};
+ghost use Rattle.table_reading.specs.Lookup.{judged, looked};
+ghost use Rattle.table_lookup.specs.Lookup.{lookedRow};
 
-// The quick way, where the version is plain; it may have no answer.
-fn lookup_plain(table: &[u8], version: &[u8]) -> Quick
-    ensures { λ r. ⌜ LookedPlainly (now (table .entry)) (now (version .entry)) r ⌝ }
+// What is said of a version, and where it is accepted, whether it is held.
+fn judge(verdict: Verdict, held: bool) -> YesNo
+    ensures { λ r. ⌜ r ≡ judged verdict held ⌝ }
 {
-    let read = read_plain(version);
-    if !read.found {
-        return Quick::Unknown;
+    if let Verdict::Refused(refusal) = verdict {
+        return YesNo::Second(refusal);
     }
-    let plain = read.plain;
-    let candidate = PlainEnd {
-        side: Side::Before,
-        plain,
-    };
-    search_plainly(table, candidate)
+    if held { YesNo::Yes } else { YesNo::No }
 }
 
-// Whether the version, without its label, lies between the two ends of some range. The table is judged before the version.
+// What `lookup` answers of `table` and the text of which `read_row` said `verdict` and left `row`: who asks several tables reads the text once.
+pub fn lookup_row(table: &[u8], verdict: Verdict, row: &[u64; 22]) -> YesNo
+    ensures { λ r. ⌜ r ≡ lookedRow (now (table .entry)) verdict (now (row .entry)) ⌝ }
+{
+    match search_table(table, row) {
+        Searched::Refused(refusal) => YesNo::First(refusal),
+        Searched::Held(held) => judge(verdict, held),
+    }
+}
+
+// Whether `version`, without its label, lies between the two ends of some range of `table`. The table is judged before the version.
 pub fn lookup(table: &[u8], version: &[u8]) -> YesNo
     ensures { λ r. ⌜ r ≡ looked (now (table .entry)) (now (version .entry)) ⌝ }
 {
-    match lookup_plain(table, version) {
-        Quick::Unknown => table_reading::lookup::lookup(table, version),
-        Quick::Held(held) => judge(Verdict::Accepted, held),
-    }
+    let mut row = [0u64; 22];
+    let verdict = read_row(version, &mut row);
+    lookup_row(table, verdict, &row)
 }

@@ -1,9 +1,6 @@
 pub mod Anchors
 pub mod Numbers
-pub mod Reading
-pub mod Searching
 pub mod Places
-pub mod Lookups
 pub mod EndsRead
 pub mod Tables
 pub mod Answers

@@ -1,13 +1,10 @@
 -- A place before a version is the same with and without the version's label.
 -- Assumes nothing.
-use mathlib.Core.Path.{_≡_, refl, sym, _∙_, ap}
+use mathlib.Core.Path.{_≡_, refl}
 use mathlib.Core.List.{List, [], _∷_}
-use Prim.Native.Nat.{ℕ}
 use Rattle.ranges.specs.Cut.{bot, top, before, after}
 use Rattle.ranges.specs.Range.{Range, mem}
-use Rattle.version_parts.specs.declared.fields.Version.{Version}
-use Rattle.version_reading.specs.Value.{Value, withoutLabel, valueOf}
-use Rattle.version_reading.proofs.Values.{label-anywhere as value-anywhere}
+use Rattle.version_reading.specs.Value.{Value, withoutLabel}
 use Rattle.version_order.proofs.Orders.{unlabelled-right}
 use Rattle.list_ends.specs.Cut.{Place, lePlace}
 
@@ -20,9 +17,3 @@ unlabelled-place (after x) w = rw (unlabelled-right x w)
 pub unlabelled-mem : (T : List (Range Place)) (w : Value) → mem lePlace T (before w) ≡ mem lePlace T (before (withoutLabel w))
 unlabelled-mem [] w = refl
 unlabelled-mem (r ∷ T) w = rw (unlabelled-place (r .lo) w, unlabelled-place (r .hi) w, unlabelled-mem T w)
-
--- wherever the label of the fields lies
-pub label-anywhere : (T : List (Range Place)) (s t : List ℕ) (v : Version) →
-    mem lePlace T (before (valueOf s v)) ≡ mem lePlace T (before (valueOf t v))
-label-anywhere T s t v =
-    unlabelled-mem T (valueOf s v) ∙ ap (λ w. mem lePlace T (before w)) (value-anywhere s t v) ∙ sym (unlabelled-mem T (valueOf t v))

@@ -2,6 +2,5 @@ pub mod Kind
 pub mod Body
 pub mod Table
 pub mod WellFormed
-pub mod Reached
 pub mod Lookup
 pub mod Text

@@ -1,5 +1,2 @@
-// Range tables: their records, reading them, and looking a version up.
-pub mod end_at;
+// Range tables by the rules: their records, what a well-formed table says, and what a lookup has to answer (specs/); and the kinds of records.
 pub mod kind;
-pub mod lookup;
-pub mod search;

@@ -1,6 +1,6 @@
--- `table_lookup::lookup` meets its contract.
+-- `table_lookup::lookup` meets its contract: looking the row up is looking the text up.
 -- Assumes nothing.
-use Rattle.table_lookup.proofs.PlainSearch.{lookup-quick}
+use Rattle.table_lookup.proofs.Lookups.{text-looked}
 use borrow.Author.Needs.{needs}
 use Rattle.table_lookup.proofs.lookup.Statement.{statement}
 use Rattle.table_lookup.proofs.lookup.Tie as tie
@@ -10,9 +10,5 @@ lookup-spec =
     tie.close
     (tie.spec
     (λ c κs. search needs)
-    (λ c. search needs)
     (λ c κs. search needs)
-    (λ c. search needs)
-    (λ c κs. search needs)
-    (λ c. search needs)
-    (λ c. search lookup-quick))
+    (λ c. search text-looked))
