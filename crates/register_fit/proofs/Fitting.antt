@@ -11,8 +11,8 @@ use borrow.Author.Tests.{eq-eqb, ne-eqb, lt-ltb, le-ltb}
 use Rattle.answers.specs.declared.Refusal.{Refusal}
 use Rattle.answers.specs.Refusal.{refusal}
 use Rattle.version_reading.specs.declared.text.Verdict.{Verdict}
-use Rattle.version_reading.specs.declared.text.VersionReading.{VersionReading}
 use Rattle.version_reading.specs.Reading.{versionOf}
+use Rattle.version_rows.specs.Read.{RowRead}
 use Rattle.register_entries.specs.declared.entry.Entry.{Entry}
 use Rattle.register_rules.specs.declared.rule.Rule.the-variants.{Zero, Taken, Outside}
 use Rattle.register_rules.specs.declared.lowest.Lowest.{Lowest}
@@ -24,7 +24,7 @@ use Rattle.register_rules.specs.declared.fit.Fit.the-variants.{Register}
 use Rattle.register_rules.specs.Lowest.{lowestFrom}
 use Rattle.register_rules.specs.Guilt.{guiltBy, tableGuilt, firstOf}
 use Rattle.register_rules.specs.Fit.{fitting, unless, answered, fitOf}
-use Rattle.register_fit.specs.Search.{foundUnless, searchedIn, judged}
+use Rattle.register_fit.specs.Search.{foundUnless, SearchedBy, judged}
 
 pub too-many : (l : List Entry) (buffer text : List ℕ) (n : ℕ) → length l ≡ 65 → 64 < n → Register (refusal 30 64) ≡ fitOf (take n l) buffer text
 unfolding fitOf
@@ -66,9 +66,9 @@ module _ (l : List Entry) (buffer text : List ℕ) (n : ℕ) (few : n ≤ 64) wh
         unfolding fitOf
         outside-found f = rw (count-few, ← z, ← t, ← o, eq-eqb (zero .number) 0 z0, eq-eqb (taken .number) 0 t0) (unless-refused outside _ f)
 
-        pub none-found : outside .number ≡ 0 → (v : VersionReading) (s : Searched) (r : Fit) → v ≡ versionOf text → s ≡ searchedIn buffer text (take n l) →
-            r ≡ judged (v .verdict) s → r ≡ fitOf (take n l) buffer text
+        pub none-found : outside .number ≡ 0 → (verdict : Verdict) (old row : List ℕ) (s : Searched) (r : Fit) → RowRead text old row verdict →
+            SearchedBy buffer verdict row (take n l) s → r ≡ judged verdict s → r ≡ fitOf (take n l) buffer text
         unfolding fitOf
-        none-found o0 v s r g e f =
+        none-found o0 verdict old row s r read e f =
             rw (count-few, ← z, ← t, ← o, eq-eqb (zero .number) 0 z0, eq-eqb (taken .number) 0 t0, eq-eqb (outside .number) 0 o0)
-            (f ∙ rw (e, g) (judge-found (versionOf text .verdict) (firstOf (tableGuilt buffer (take n l)) (take n l)) (lowestFrom Nothing (fitting buffer text (take n l)))))
+            (f ∙ rw (e .is text old read, read .is) (judge-found (versionOf text .verdict) (firstOf (tableGuilt buffer (take n l)) (take n l)) (lowestFrom Nothing (fitting buffer text (take n l)))))

@@ -1,6 +1,6 @@
 -- The ways of the search through the tables.
 -- Assumes nothing.
-use mathlib.Core.Path.{_≡_, refl, sym, _∙_, subst}
+use mathlib.Core.Path.{_≡_, refl, sym, _∙_, ap, subst}
 use mathlib.Core.List.{List, _∷_}
 use Prim.Native.Nat.{ℕ, suc, _+_, _-_, _≤_, _<_}
 use native.Mathlib.Numerals.{add-one}
@@ -10,11 +10,15 @@ use borrow.Author.Tests.{ne-eqb}
 use Rattle.answers.specs.declared.Refusal.{Refusal}
 use Rattle.answers.specs.Refusal.{refusal}
 use Rattle.answers.specs.declared.YesNo.{YesNo}
+use Rattle.version_reading.specs.declared.text.Verdict.{Verdict}
+use Rattle.version_rows.specs.Read.{RowRead}
 use Rattle.answers.specs.declared.YesNo.the-variants.{Yes, No, First as Table, Second as Version}
 use Rattle.table_reading.specs.Table.{Tabled, refused, ranges, tableOf}
 use Rattle.table_reading.specs.Lookup.{looked}
 use Rattle.table_reading.proofs.Tables.{only-18}
 use Rattle.table_reading.proofs.Answers.{lookup-refused, lookup-table-refused}
+use Rattle.table_lookup.specs.Lookup.{lookedRow}
+use Rattle.table_lookup.proofs.Lookups.{row-looked}
 use Rattle.register_entries.specs.declared.entry.Entry.{Entry}
 use Rattle.register_entries.specs.Held.{blank}
 use Rattle.register_entries.proofs.Firsts.{first-count, first-on, first-none, first-at}
@@ -25,20 +29,21 @@ use Rattle.register_fit.specs.declared.search.Searched.the-variants.{Fou
 use Rattle.register_rules.specs.Guilt.{entryAt, tableIn, tableNumber, firstFrom}
 use Rattle.register_rules.specs.Lowest.{lowered, lowestFrom}
 use Rattle.register_rules.specs.Fit.{fitting}
-use Rattle.register_fit.specs.Search.{met, searchedFrom, searchedIn}
+use Rattle.register_fit.specs.Search.{met, searchedFrom, searchedIn, SearchedBy}
 
 -- `meet`, by the table's answer
-module _ (buffer text table : List ℕ) (e : Entry) (i : ℕ) (lowest : Lowest) (a : YesNo) (t : table ≡ tableIn buffer e) (g : a ≡ looked table text) where
-  pub met-yes : (l : Lowest) → a ≡ Yes → l ≡ lowered lowest (e .id) → Found l ≡ met (looked (tableIn buffer e) text) e i lowest
+module _ (buffer row table : List ℕ) (verdict : Verdict) (e : Entry) (i : ℕ) (lowest : Lowest) (a : YesNo) (t : table ≡ tableIn buffer e)
+    (g : a ≡ lookedRow table verdict row) where
+  pub met-yes : (l : Lowest) → a ≡ Yes → l ≡ lowered lowest (e .id) → Found l ≡ met (lookedRow (tableIn buffer e) verdict row) e i lowest
   met-yes l f h = rw (← t, ← g, f, h)
 
-  pub met-no : a ≡ No → Found lowest ≡ met (looked (tableIn buffer e) text) e i lowest
+  pub met-no : a ≡ No → Found lowest ≡ met (lookedRow (tableIn buffer e) verdict row) e i lowest
   met-no f = rw (← t, ← g, f)
 
-  pub met-version : (x : Refusal) → a ≡ Version x → Found lowest ≡ met (looked (tableIn buffer e) text) e i lowest
+  pub met-version : (x : Refusal) → a ≡ Version x → Found lowest ≡ met (lookedRow (tableIn buffer e) verdict row) e i lowest
   met-version x f = rw (← t, ← g, f)
 
-  pub met-table : (x : Refusal) → a ≡ Table x → Bad (refusal (x .number) i) ≡ met (looked (tableIn buffer e) text) e i lowest
+  pub met-table : (x : Refusal) → a ≡ Table x → Bad (refusal (x .number) i) ≡ met (lookedRow (tableIn buffer e) verdict row) e i lowest
   met-table x f = rw (← t, ← g, f)
 
 pub ruleset meeting = (met-yes, met-no, met-version, met-table)
@@ -85,17 +90,17 @@ module _ (buffer text : List ℕ) (es : List Entry) (room i : ℕ) (x : Entry) (
   search-step : searchedFrom buffer text es (suc room) i (x ∷ rest) lowest ≡ onward more (met (looked (tableIn buffer x) text) x i lowest)
   search-step = by-answer (looked (tableIn buffer x) text) refl (judged-as (tableIn buffer x) text)
 
--- `search`, at index i
+-- `search` for a text, at index i
 module _ (buffer text : List ℕ) (l : List Entry) (size : length l ≡ 65) (n : ℕ) (few : n ≤ 64) where
-  pub search-start : searchedFrom buffer text (take n l) (n - 0) 0 (drop 0 (take n l)) Nothing ≡ searchedIn buffer text (take n l)
-  search-start =
+  text-start : searchedFrom buffer text (take n l) (n - 0) 0 (drop 0 (take n l)) Nothing ≡ searchedIn buffer text (take n l)
+  text-start =
       let all : n - 0 ≡ length (take n l) = omega (arith, first-count l size n (omega arith)) in
       rw all
 
   module _ (i : ℕ) (lowest : Lowest) (same : searchedFrom buffer text (take n l) (n - i) i (drop i (take n l)) lowest ≡ searchedIn buffer text (take n l)) where
-    pub search-over : n ≤ i → Found lowest ≡ searchedIn buffer text (take n l)
+    text-over : n ≤ i → Found lowest ≡ searchedIn buffer text (take n l)
     unfolding firstFrom lowestFrom fitting
-    search-over h =
+    text-over h =
         let z : n - i ≡ 0 = omega arith in
         let done : searchedFrom buffer text (take n l) (n - i) i (drop i (take n l)) lowest ≡ Found lowest = rw (z, first-none l size n (omega arith) i h) in
         sym done ∙ same
@@ -108,9 +113,34 @@ module _ (buffer text : List ℕ) (l : List Entry) (size : length l ≡ 65) (n :
           let there = first-on l size n (omega arith) i d h in
           rw e (sym on ∙ (rw (one, there) at same))
 
-      pub search-ends : (y : Refusal) → m ≡ Bad y → m ≡ searchedIn buffer text (take n l)
-      search-ends y f = let s = stepped in rw f (rw f at s)
+      text-ends : (y : Refusal) → m ≡ Bad y → m ≡ searchedIn buffer text (take n l)
+      text-ends y f = let s = stepped in rw f (rw f at s)
 
-      pub search-on : (k : Lowest) → m ≡ Found k →
+      text-on : (k : Lowest) → m ≡ Found k →
           searchedFrom buffer text (take n l) (n - (i + 1)) (i + 1) (drop (i + 1) (take n l)) k ≡ searchedIn buffer text (take n l)
-      search-on k f = let s = stepped in rw f at s
+      text-on k f = let s = stepped in rw f at s
+
+-- what is left to search from index i on, whichever text the verdict and the row were read of
+pub record Left (buffer : List ℕ) (verdict : Verdict) (row : List ℕ) (l : List Entry) (n i : ℕ) (lowest : Lowest) : Type 0 where
+  pub same : (text old : List ℕ) → RowRead text old row verdict →
+      searchedFrom buffer text (take n l) (n - i) i (drop i (take n l)) lowest ≡ searchedIn buffer text (take n l)
+
+module _ (buffer : List ℕ) (verdict : Verdict) (row : List ℕ) (l : List Entry) (size : length l ≡ 65) (n : ℕ) (few : n ≤ 64) where
+  pub search-start : Left buffer verdict row l n 0 Nothing
+  search-start = record { same = λ text old read. text-start buffer text l size n few }
+
+  module _ (i : ℕ) (lowest : Lowest) (left : Left buffer verdict row l n i lowest) where
+    pub search-over : n ≤ i → SearchedBy buffer verdict row (take n l) (Found lowest)
+    search-over h = record { is = λ text old read. text-over buffer text l size n few i lowest (left .same text old read) h }
+
+    module _ (h : i < n) (d : Entry) (m : Searched) (e : m ≡ met (lookedRow (tableIn buffer (getD l i d)) verdict row) (getD l i d) i lowest) where
+      by-text : (text old : List ℕ) → RowRead text old row verdict → m ≡ met (looked (tableIn buffer (getD l i d)) text) (getD l i d) i lowest
+      by-text text old read = e ∙ ap (λ a. met a (getD l i d) i lowest) (row-looked (tableIn buffer (getD l i d)) text old row verdict read)
+
+      pub search-ends : (y : Refusal) → m ≡ Bad y → SearchedBy buffer verdict row (take n l) m
+      search-ends y f =
+          record { is = λ text old read. text-ends buffer text l size n few i lowest (left .same text old read) h d m (by-text text old read) y f }
+
+      pub search-on : (k : Lowest) → m ≡ Found k → Left buffer verdict row l n (i + 1) k
+      search-on k f =
+          record { same = λ text old read. text-on buffer text l size n few i lowest (left .same text old read) h d m (by-text text old read) k f }

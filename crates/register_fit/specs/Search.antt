@@ -1,4 +1,5 @@
 -- The search through the tables, entry by entry: what its functions say of each other.
+use mathlib.Core.Path.{_≡_}
 use mathlib.Core.List.{List}
 use mathlib.Core.Bool.{cond}
 use Prim.Native.Nat.{ℕ}
@@ -7,6 +8,7 @@ use lib.ListN.{length}
 use Rattle.answers.specs.declared.Refusal.{Refusal}
 use Rattle.answers.specs.Refusal.{refusal}
 use Rattle.version_reading.specs.declared.text.Verdict.{Verdict}
+use Rattle.version_rows.specs.Read.{RowRead}
 use Rattle.answers.specs.declared.YesNo.{YesNo}
 use Rattle.answers.specs.declared.YesNo.the-variants.{Yes, No, First as Table, Second as Version}
 use Rattle.register_entries.specs.declared.entry.Entry.{Entry}
@@ -37,6 +39,10 @@ searchedFrom buffer text es room i rest lowest = foundUnless (firstFrom (tableGu
 
 abbrev pub searchedIn : List ℕ → List ℕ → List Entry → Searched
 searchedIn buffer text es = searchedFrom buffer text es (length es) 0 es Nothing
+
+-- what is found with a verdict and a row is what is found with the text that they were read of, whichever that is
+pub record SearchedBy (buffer : List ℕ) (verdict : Verdict) (row : List ℕ) (es : List Entry) (r : Searched) : Type 0 where
+  pub is : (text old : List ℕ) → RowRead text old row verdict → r ≡ searchedIn buffer text es
 
 -- the version's verdict, after the register's
 abbrev pub judged : Verdict → Searched → Fit

@@ -7,6 +7,7 @@ use register_entries::held::Held;
 use register_rules::fit::Fit;
 use register_rules::rule::Rule;
 use version_reading::text::Verdict;
+use version_rows::read::read_row;
 ghost use mathlib.Core.Path.{_≡_};
 ghost use Rattle.register_entries.specs.Held.{entriesIn};
 ghost use Rattle.register_rules.specs.Fit.{fitOf};
@@ -25,7 +26,7 @@ fn judge(verdict: Verdict, searched: Searched) -> Fit
     }
 }
 
-// The register's rules in their order, then its tables, then the version.
+// The register's rules in their order, then its tables, then the version, which is read once for all tables.
 pub(crate) fn decide(held: Held, buffer: &[u8], text: &[u8]) -> Fit
     ensures { λ r. ⌜ r ≡ fitOf (entriesIn held) (now (buffer .entry)) (now (text .entry)) ⌝ }
 {
@@ -49,7 +50,7 @@ pub(crate) fn decide(held: Held, buffer: &[u8], text: &[u8]) -> Fit
     if outside.number != 0 {
         return Fit::Register(outside);
     }
-    let read = version::read(text);
-    let verdict = read.verdict;
-    judge(verdict, search(buffer, text, list, count))
+    let mut row = [0u64; 22];
+    let verdict = read_row(text, &mut row);
+    judge(verdict, search(buffer, verdict, &row, list, count))
 }

@@ -2,22 +2,18 @@
 -- Assumes nothing.
 use mathlib.Core.Path.{_≡_}
 use Prim.Native.Nat.{_-_, _≤_}
-use lib.ListN.{length, take, drop}
+use lib.ListN.{length}
 use borrow.Author.Needs.{needs}
-use Rattle.register_fit.specs.Search.{searchedFrom, searchedIn}
-use Rattle.register_fit.proofs.Searching.{search-start, search-ends, search-on, search-over}
+use Rattle.register_fit.proofs.Searching.{Left, search-start, search-ends, search-on, search-over}
 use Rattle.register_fit.proofs.search.search.Statement.{statement}
 use Rattle.register_fit.proofs.search.search.Tie as tie
 
 abbrev Inv-loop : tie.InvT-loop
-Inv-loop buffer text count list lowest₀ i₀ lowest i =
-    (i ≤ count)
-    × (count ≤ 64)
-    × (length list ≡ 65)
-    × (searchedFrom buffer text (take count list) (count - i) i (drop i (take count list)) lowest ≡ searchedIn buffer text (take count list))
+Inv-loop buffer verdict row count list lowest₀ i₀ lowest i =
+    (i ≤ count) × (count ≤ 64) × (length list ≡ 65) × Left buffer verdict row list count i lowest
 
 abbrev μ-loop : tie.MeasureT-loop
-μ-loop buffer text count list lowest₀ i₀ lowest i = count - i
+μ-loop buffer verdict row count list lowest₀ i₀ lowest i = count - i
 
 pub search-spec : {M : Type 1} → statement M
 search-spec =
