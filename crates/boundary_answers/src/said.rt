@@ -11,7 +11,7 @@ use version_reading::text::Verdict;
 use version_word::packed::Worded;
 
 // A refusal's number and place, and which of the two texts it is about; or a value, with 0 for the rest.
-#[derive(Drop)]
+#[derive(Clone, Copy)]
 pub struct Said {
     pub number: u8,
     pub value: u64,

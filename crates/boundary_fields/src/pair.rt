@@ -6,7 +6,7 @@ use chars::spelling::PreKind;
 use version_parts::fields::{MaybeNumber, Pre};
 use version_reading::segment::Segment;
 
-#[derive(Drop)]
+#[derive(Clone, Copy)]
 pub struct Pair {
     pub kind: u64,
     pub number: u64,

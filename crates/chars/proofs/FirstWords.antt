@@ -1,8 +1,8 @@
 -- Searching words one after the other: the ways of `first_word`, and what the word that is found says of the words in their order.
 -- Assumes nothing.
-use mathlib.Core.Path.{◌≡◌, refl, sym, ◌∙◌, ap}
+use mathlib.Core.Path.{◌≡◌, refl, sym, ◌∙◌}
 use mathlib.Core.Bool.{Bool, true, false, cond}
-use mathlib.Core.List.{List, [], ◌∷◌, map}
+use mathlib.Core.List.{List, [], ◌∷◌}
 use Prim.Native.Nat.{ℕ, suc, ◌+◌, ◌-◌, ◌≤◌, ◌<◌}
 use native.Mathlib.Numerals.{add-one}
 use native.Mathlib.Omega.{arith}
@@ -10,7 +10,7 @@ use lib.Dec.{eqb}
 use lib.ListN.{length, length-drop, take, drop, drop_of_length-le}
 use lib.Seq.{take-length, drop-drop}
 use borrow.Author.Tests.{eq-eqb, ne_eqb, eqb-true, eqb-false}
-use Rattle.bytes.specs.Bytes.{index_of, index_after, slice}
+use Rattle.chars.specs.Scan.{index_of, index_after}
 use Rattle.chars.specs.Case.{starts_with, beginning_of}
 use Rattle.chars.specs.declared.spelling.WordAt.{WordAt}
 use Rattle.chars.specs.declared.spelling.WordAt.TheVariants.{Found, Missing}
@@ -83,14 +83,10 @@ next_from s rest which n ws (Front.more some) e z f = rw (← e, eq-eqb n 0 z)
 
 -- the ways of `first_word`: from the word at a place on, which has a number
 module _ (words rest : List ℕ) (at which : ℕ) (t : WordAt) (same : first_in which (words_in (drop at words)) rest ≡ t) where
-  module _ (end len : ℕ) (h : at < length words) (e : end ≡ at + index_of 32 (slice at (length words) words))
+  module _ (end len : ℕ) (h : at < length words) (ends : end ≡ at + index_of 32 (drop at words))
       (f : len ≡ beginning_of (take (end - at) (drop at words)) rest) where
-    ends : end ≡ at + index_of 32 (drop at words)
-    unfolding slice
-    ends = rw (take-length words) at e
-
     begins : len ≡ beginning_of (take (index_of 32 (drop at words)) (drop at words)) rest
-    begins = let size : end - at ≡ index_of 32 (drop at words) = omega (arith, ends) in rw size at f
+    begins = let size : end - at ≡ index_of 32 (drop at words) = omega arith in rw size at f
 
     front : Front (drop at words) (words_in (drop at words))
     front = front_by (drop at words) _ refl

@@ -3,6 +3,7 @@ pub mod Table
 pub mod Ranged
 pub mod Classes
 pub mod Beginnings
+pub mod Scans
 pub mod FirstWords
 pub mod Spellings
 pub mod Parts

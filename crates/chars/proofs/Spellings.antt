@@ -1,6 +1,6 @@
 -- What the word that is found says, as a spelling of each part.
 -- Assumes nothing.
-use mathlib.Core.Path.{◌≡◌, refl, sym, ◌∙◌, ap}
+use mathlib.Core.Path.{◌≡◌, refl, ◌∙◌}
 use mathlib.Core.Bool.{Bool, true, false, cond}
 use mathlib.Core.List.{List}
 use Prim.Native.Nat.{ℕ, ◌≤◌}
@@ -13,7 +13,6 @@ use Rattle.chars.specs.declared.spelling.WordAt.{WordAt}
 use Rattle.chars.specs.declared.spelling.WordAt.TheVariants.{Found as WordFound, Missing as WordMissing}
 use Rattle.chars.specs.declared.spelling.PreKind.{PreKind}
 use Rattle.chars.specs.declared.spelling.PreKind.TheVariants.{Rc}
-use Rattle.chars.specs.declared.spelling.PreSpelling.{PreSpelling}
 use Rattle.chars.specs.declared.spelling.PreSpelling.TheVariants.{Found as PreFound, Missing as PreMissing}
 use Rattle.chars.specs.declared.spelling.Spelling.{Spelling}
 use Rattle.chars.specs.declared.spelling.Spelling.TheVariants.{Found, Missing}

@@ -1,7 +1,6 @@
 -- A quoted text as its bytes, so that definitions can show the words that they are about.
 use Rattle.std.specs.Prelude.{List, [], ◌∷◌, ℕ}
 use Prim.Native.Char.{code}
-use Prim.Native.String as String
 use Prim.Native.String.{String}
 
 -- of ASCII characters alone

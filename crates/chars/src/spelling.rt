@@ -4,9 +4,9 @@ ghost use Rattle.chars.specs.Words.{WordFound, first_in, words_in};
 ghost use Rattle.chars.specs.Spelling.{Spelled, PreSpelled, pre_kind_of, pre_spelling, spelling_of, post_spelling, dev_spelling};
 
 use crate::case::beginning;
-use bytes::scan::find;
+use crate::scan::find;
 
-#[derive(Drop)]
+#[derive(Clone, Copy)]
 pub enum PreKind {
     Alpha,
     Beta,
@@ -14,21 +14,21 @@ pub enum PreKind {
 }
 
 // A pre-release's spelling at the front of a text: its kind and its length.
-#[derive(Drop)]
+#[derive(Clone, Copy)]
 pub enum PreSpelling {
     Found(PreKind, usize),
     Missing,
 }
 
 // Another part's spelling, by its length.
-#[derive(Drop)]
+#[derive(Clone, Copy)]
 pub enum Spelling {
     Found(usize),
     Missing,
 }
 
 // Which of several words a text begins with, counted from 0, and how many bytes it has.
-#[derive(Drop)]
+#[derive(Clone, Copy)]
 pub enum WordAt {
     Found(usize, usize),
     Missing,
@@ -41,7 +41,7 @@ fn first_word(words: &[u8], rest: &[u8]) -> WordAt
     let mut at = 0;
     let mut which = 0usize;
     while at < words.len() {
-        let end = find(words, at, words.len(), b' ');
+        let end = find(words, at, b' ');
         let len = beginning(rest, &words[at..end]);
         if len != 0 {
             return WordAt::Found(which, len);

@@ -3,7 +3,7 @@
 use mathlib.Core.Path.{◌≡◌, refl, sym, ap, ◌∙◌, subst}
 use mathlib.Core.Bool.{Bool, true, false}
 use mathlib.Core.List.{List, [], ◌∷◌, ◌++◌}
-use Prim.Native.Nat.{ℕ, suc, ◌+◌, ◌-◌, ◌^◌, ◌≤◌, ◌<◌}
+use Prim.Native.Nat.{ℕ, suc, ◌+◌, ◌/◌, ◌%◌, ◌^◌, ◌≤◌, ◌<◌}
 use native.Mathlib.Nat.{add-zero, zero-add, add-suc, suc-add}
 use native.Mathlib.Omega.{arith}
 use lib.Dec.{leb, ltb}
@@ -15,7 +15,7 @@ use Rattle.answers.specs.Refusal.{refusal}
 use Rattle.answers.specs.Printed.{answer, filled, Printed}
 use Rattle.decimal.specs.Digits.{decimal}
 use Rattle.decimal.specs.Put.{farthest, onward, Wrote, Put}
-use Rattle.decimal.proofs.Figures.{twenty_digits}
+use Rattle.decimal.proofs.Figures.{one_digit, more_digits, twenty_digits}
 
 pub sets_append : (s t l : List ℕ) (i : ℕ) → sets (sets l i s) (i + length s) t ≡ sets l i (s ++ t)
 sets_append [] t l i = rw add-zero
@@ -69,6 +69,14 @@ retext {a} {b} {s} {t} {i} {j} e p = subst (λ (x : List ℕ). Wrote a i x b j) 
 -- a number of 64 bits has at most twenty digits
 pub number_put : {a b : List ℕ} {i j n : ℕ} → Wrote a i (decimal n) b j → n < 2 ^ 64 → Put 20 a i (decimal n) b j
 number_put {n = n} p h = record { wrote = p; near = omega (arith, p.moved, twenty_digits n h) }
+
+-- the ways out of `put_number`: a number below ten, and the digits before the last one
+pub one_put : (a b : List ℕ) (i j n : ℕ) → n < 10 → Put 1 a i ((48 + n) ∷ []) b j → Put 20 a i (decimal n) b j
+one_put a b i j n h p = number_put (retext (sym (one_digit n h)) p.wrote) (omega arith)
+
+pub more_put : (a b c : List ℕ) (i j k n : ℕ) → 10 ≤ n → n < 2 ^ 64 → Put 20 a i (decimal (n / 10)) b j → Put 1 b j ((48 + n % 10) ∷ []) c k →
+    Put 20 a i (decimal n) c k
+more_put a b c i j k n h few p q = number_put (retext (sym (more_digits n h)) (then p.wrote q.wrote)) few
 
 -- what a printer owes: where there is no room, and where there is
 -- its writer was run on an empty buffer first, and said where it would be

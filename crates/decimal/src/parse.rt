@@ -8,14 +8,14 @@ use chars::class;
 // The largest number of 64 bits.
 pub const LARGEST: u64 = 18446744073709551615;
 
-#[derive(Drop)]
+#[derive(Clone, Copy)]
 pub enum Number {
     Value(u64),
     TooBig,
 }
 
 // The number at the front of a text: none, its value and how many digits it has, or one of 2^64 and more.
-#[derive(Drop)]
+#[derive(Clone, Copy)]
 pub enum Leading {
     Absent,
     Read(u64, usize),

@@ -2,7 +2,7 @@
 use crate::seen::{Seen, by_lent, by_value};
 
 // In how many ways a text was cut, and in how many of them it was told something else than whole.
-#[derive(Drop)]
+#[derive(Clone, Copy)]
 pub struct Tally {
     pub ways: u64,
     pub otherwise: u64,

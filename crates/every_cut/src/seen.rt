@@ -8,7 +8,7 @@ use version_parts::fields::Version;
 use version_reading::text::Verdict;
 
 // A refusal's number, 0 for none, its place, and the fields.
-#[derive(Drop)]
+#[derive(Clone, Copy)]
 pub struct Seen {
     pub number: u64,
     pub place: u64,

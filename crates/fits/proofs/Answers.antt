@@ -20,7 +20,7 @@ use Rattle.register_rules.specs.declared.lowest.Lowest.TheVariants.{Nothing, One
 use Rattle.register_rules.specs.declared.fit.Fit.{Fit}
 use Rattle.register_rules.specs.declared.fit.Fit.TheVariants.{By, Register, Version}
 use Rattle.register_rules.proofs.Exactly.{by_accepted}
-use Rattle.register_rules.specs.Fit.{most, fit_of}
+use Rattle.register_rules.specs.Fit.{fit_of}
 use Rattle.answer_lines.specs.Text.{refusal_line, normal_line}
 use Rattle.fits.specs.Answer.{several_text, lowest_text, fit_line, longest_answer}
 

@@ -51,9 +51,13 @@ module _ (es : List Entry) (tables : List ℕ) where
   -- all versions of an input
   pub same_answers : (lines shown : List (List ℕ)) → AllShown longest_line lines shown → map line_for shown ≡ map line_for lines
   same_answers [] [] s = refl
+  same_answers [] (x ∷ shown) s = elim s [ ]
+  same_answers (line ∷ lines) [] s = elim s [ ]
   same_answers (line ∷ lines) (x ∷ shown) s = rw (shown_answer line x s.0, same_answers lines shown s.1)
 
 -- all lines of a register
 pub same_lines : (lines shown : List (List ℕ)) → AllShown longest_line lines shown → All (λ line. length line ≤ longest_line) lines → shown ≡ lines
 same_lines [] [] s short = refl
+same_lines [] (x ∷ shown) s short = elim s [ ]
+same_lines (line ∷ lines) [] s short = elim s [ ]
 same_lines (line ∷ lines) (x ∷ shown) s short = rw (s.0.whole short.0, same_lines lines shown s.1 short.1)

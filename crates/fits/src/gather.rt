@@ -9,19 +9,20 @@ use chars::place::part;
 use lines::input::next_line;
 use lines::window::{Found, Window};
 use register_lines::shelf::{Entered, Shelf, empty_shelf, enter};
+use std::io::Read;
 
 // A longer line is cut, and taken for what is there of it.
 pub(crate) const LONGEST_LINE: usize = 65536;
 
 // How the register's lines end: at the empty line, with the versions after it; at a line that is refused, counted from 1; or with the input.
-#[derive(Drop)]
+#[derive(Clone, Copy)]
 pub enum Ending {
     Versions(Window),
     Refused(usize, Refusal),
     Nothing,
 }
 
-#[derive(Drop)]
+#[derive(Clone, Copy)]
 pub struct Gathered {
     pub shelf: Shelf,
     pub ending: Ending,
@@ -34,7 +35,7 @@ fn enter_part(buffer: &[u8], from: usize, to: usize, tables: &mut [u8], shelf: S
     enter(tables, shelf, part(buffer, from, to))
 }
 
-pub(crate) fn gather(buffer: &mut [u8], tables: &mut [u8]) -> Gathered
+pub(crate) fn gather<R: Read>(input: &mut R, buffer: &mut [u8], tables: &mut [u8]) -> Gathered
     requires { room_for_all ≤ length tables.old }
     ensures { Gathering tables.new result }
 {
@@ -43,7 +44,7 @@ pub(crate) fn gather(buffer: &mut [u8], tables: &mut [u8]) -> Gathered
     let mut k = 0usize;
     // No run uses this count up: the 65th line is refused.
     while k < 65 {
-        let next = next_line(buffer, window, LONGEST_LINE);
+        let next = next_line(input, buffer, window, LONGEST_LINE);
         let found = next.found;
         window = next.window;
         let Found::Line(from, to) = found else {

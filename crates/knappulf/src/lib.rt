@@ -1,4 +1,6 @@
 // The entry points for C. Each returns a refusal's number, 0 for none, and leaves a value, a place and which text in the lent answer.
+#![tactic(auto)]
+
 mod reader;
 
 ghost use Rattle.std.specs.Prelude.{◌≡◌, false, length};

@@ -4,7 +4,7 @@ use mathlib.Core.Path.{◌≡◌, refl}
 use mathlib.Core.Bool.{Bool, true, false}
 use mathlib.Core.List.{List, [], ◌∷◌, ◌++◌}
 use Prim.Native.Nat.{ℕ}
-use Rattle.bytes.specs.Bytes.{index_of, index_after}
+use Rattle.chars.specs.Scan.{index_of, index_after}
 use Rattle.chars.specs.Text.{ascii}
 use Rattle.lines.specs.declared.window.Window.{Window}
 use Rattle.lines.specs.declared.window.Found.TheVariants.{Line, More, End}

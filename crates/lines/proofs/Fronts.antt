@@ -7,18 +7,16 @@ use Prim.Native.Nat.{ℕ, ◌+◌, ◌-◌, ◌<◌, ◌≤◌}
 use native.Mathlib.Nat.{zero-add}
 use native.Mathlib.Omega.{arith}
 use lib.ListN.{length, take, drop}
-use lib.Seq.{take-length}
 use borrow.Author.Tests.{lt-ltb, le-ltb}
-use Rattle.bytes.specs.Bytes.{slice, index_of}
+use Rattle.chars.specs.Scan.{index_of}
 use Rattle.lines.specs.declared.window.Window.{Window}
 use Rattle.lines.specs.declared.window.Found.TheVariants.{Line, More, End}
 use Rattle.lines.specs.declared.window.Found.{Found}
 use Rattle.lines.specs.declared.window.Next.{Next}
 use Rattle.lines.specs.Window.{line_feed, held, line_length, limit, told, untold, front, past_cut, text_of}
 
-pub line_found : (text : List ℕ) (r : ℕ) → r ≡ 0 + index_of line_feed (slice 0 (length text) text) → r ≡ line_length text
-unfolding slice
-line_found text r e = rw (zero-add (index_of line_feed (take (length text) text)), take-length text) at e
+pub line_found : (text : List ℕ) (r : ℕ) → r ≡ 0 + index_of line_feed (drop 0 text) → r ≡ line_length text
+line_found text r e = e ∙ zero-add (index_of line_feed text)
 
 -- the ways of `longest_open`
 module _ {done : Bool} (longest size : ℕ) (more : done ≡ false) where

@@ -8,7 +8,7 @@ use native.Mathlib.Omega.{arith}
 use lib.Dec.{eqb}
 use lib.ListN.{length, take, drop}
 use lib.Seq.{take-nil, drop-drop}
-use Rattle.bytes.specs.Bytes.{index_after, index_of}
+use Rattle.chars.specs.Scan.{index_after, index_of}
 use Rattle.lines.specs.Window.{line_feed, line_length}
 use Rattle.lines.specs.Run.{joined, lines_of}
 

@@ -1,6 +1,6 @@
 -- The lines in the window of a buffer.
 use Rattle.std.specs.Prelude.{◌≡◌, Bool, true, false, cond, List, [], ℕ, ◌+◌, ◌-◌, ◌≤◌, min, ltb, length, take, drop}
-use Rattle.bytes.specs.Bytes.{index_of}
+use Rattle.chars.specs.Scan.{index_of}
 use Rattle.lines.specs.declared.window.Window.{Window}
 use Rattle.lines.specs.declared.window.Found.{Found}
 use Rattle.lines.specs.declared.window.Found.TheVariants.{Line, More, End}

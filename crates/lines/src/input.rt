@@ -1,10 +1,10 @@
-// Reading on from standard input.
+// Reading on from an input that comes in parts.
 ghost use Rattle.std.specs.Prelude.{◌≡◌, ◌≤◌, length, replicate};
 ghost use Rattle.lines.specs.Input.{Slid, Behind, ReadOn, Told};
 
 use crate::window::{Found, Next, Window, first_line, past_cut};
 use chars::place::part;
-use libc::STDIN_FILENO;
+use std::io::Read;
 
 // Room for a line of 65,536 bytes and some of what follows it. Its length is said, so that nobody has to count the zeros again.
 pub fn buffer() -> [u8; 69632]
@@ -27,22 +27,23 @@ fn slide(buffer: &mut [u8], start: usize, end: usize) -> usize
     count
 }
 
-// The place after what one read brings, which is the same place at the end of the input.
-fn read_behind(buffer: &mut [u8], at: usize) -> usize
+// The place after what one read brings, which is the same place at the end of the input. A read that fails counts as the end.
+fn read_behind<R: Read>(input: &mut R, buffer: &mut [u8], at: usize) -> usize
     requires { at ≤ length buffer.old }
     ensures { Behind buffer.old at buffer.new result }
 {
-    let got = libc::read(STDIN_FILENO, &mut buffer[at..]);
-    let n = io::count(got, &buffer[at..]);
-    at + n
+    match input.read(&mut buffer[at..]) {
+        Ok(n) => at + n,
+        Err(_) => at,
+    }
 }
 
 // Moves what is held to the front of the buffer and reads on after it. A read that brings nothing is the end of the input.
-pub fn read_on(buffer: &mut [u8], window: Window) -> Window
+pub fn read_on<R: Read>(input: &mut R, buffer: &mut [u8], window: Window) -> Window
     ensures { ReadOn buffer.old window buffer.new result }
 {
     let kept = slide(buffer, window.start, window.end);
-    let end = read_behind(buffer, kept);
+    let end = read_behind(input, buffer, kept);
     Window {
         start: 0,
         end,
@@ -52,21 +53,19 @@ pub fn read_on(buffer: &mut [u8], window: Window) -> Window
 }
 
 // The next line, with as many reads as it takes.
-pub fn next_line(buffer: &mut [u8], window: Window, longest: usize) -> Next
+pub fn next_line<R: Read>(input: &mut R, buffer: &mut [u8], window: Window, longest: usize) -> Next
     ensures { Told buffer.new longest result }
 {
     let mut open = past_cut(buffer, window);
     // A proved loop has to end, and nothing says that the input does: no run uses this count up.
-    let mut turns = u64::MAX;
-    while turns > 0 {
+    for _ in 0..u64::MAX {
         let next = first_line(buffer, open, longest);
         let found = next.found;
         let Found::More = found else {
             return next;
         };
-        let read = read_on(buffer, open);
+        let read = read_on(input, buffer, open);
         open = past_cut(buffer, read);
-        turns -= 1;
     }
     first_line(
         buffer,

@@ -1,3 +1,5 @@
-// Lines of any length from standard input, through one buffer of constant size.
+// Lines of any length from a reader, through one buffer of constant size.
+#![tactic(auto)]
+
 pub mod input;
 pub mod window;

@@ -2,10 +2,10 @@
 ghost use Rattle.std.specs.Prelude.{◌≡◌, ◌+◌, ◌^◌, ◌<◌};
 ghost use Rattle.lines.specs.Window.{unread, LineLength, limit, told, untold, front, past_cut, text_of};
 
-use bytes::scan::find;
 use chars::place::part;
+use chars::scan::find;
 
-#[derive(Drop)]
+#[derive(Clone, Copy)]
 pub struct Window {
     pub start: usize,
     pub end: usize,
@@ -16,14 +16,14 @@ pub struct Window {
 }
 
 // A line's first place and the place after its last byte; or that more has to be read; or that there is no further line.
-#[derive(Drop)]
+#[derive(Clone, Copy)]
 pub enum Found {
     Line(usize, usize),
     More,
     End,
 }
 
-#[derive(Drop)]
+#[derive(Clone, Copy)]
 pub struct Next {
     pub found: Found,
     pub window: Window,
@@ -45,7 +45,7 @@ pub fn empty() -> Window
 fn line_length(text: &[u8]) -> usize
     ensures { LineLength text.now result }
 {
-    find(text, 0, text.len(), b'\n')
+    find(text, 0, b'\n')
 }
 
 // The longest line that waits for its line feed: one that fills the buffer can't, and at the end of the input none does.

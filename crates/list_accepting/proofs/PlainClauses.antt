@@ -30,7 +30,7 @@ use Rattle.list_accepting.specs.declared.plain.PlainClause.TheVariants.{Found, U
 use Rattle.list_accepting.specs.declared.plain_accept.ClauseVerdict.{ClauseVerdict}
 use Rattle.list_clauses.specs.Operator.{operator_of}
 use Rattle.list_clauses.specs.Clause.{read_clause, stray_wildcard, too_short_for, judged, pattern_clause, clause_of}
-use Rattle.list_clauses.specs.Step.{bytes_in, part_start, part_end, part_bytes, part_at, clause_in, step_at, first_clauses}
+use Rattle.list_clauses.specs.Step.{bytes_in, part_start, part_bytes, part_at, clause_in, step_at, first_clauses}
 use Rattle.list_clauses.specs.List.{clauses_from, list_of}
 use Rattle.list_accepting.specs.Accept.{holds, clause_accepts, all_accept, judged_by, accepted as acceptedBy}
 use Rattle.list_accepting.specs.Plain.{plain_value, from_any_start, RightlyFound, verdict_after}

@@ -1,4 +1,6 @@
 // What a list of clauses accepts: each clause by itself.
+#![tactic(auto)]
+
 pub mod accept;
 mod holds;
 mod plain;

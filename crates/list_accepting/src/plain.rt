@@ -7,7 +7,7 @@ use list_clauses::operator::{Operator, OperatorAt, find_operator};
 use version_reading::plain::{Plain, read_plain};
 
 // A clause that is not found here may still be one, or be refused: the rules say which.
-#[derive(Drop)]
+#[derive(Clone, Copy)]
 pub enum PlainClause {
     Found(Operator, Plain),
     Unknown,

@@ -21,7 +21,7 @@ use version_parts::fields::Version;
 use version_reading::plain::{Plain, whole};
 
 // A clause's refusal, number 0 where there is none, and whether it and those before it hold.
-#[derive(Drop)]
+#[derive(Clone, Copy)]
 pub(crate) struct ClauseVerdict {
     pub(crate) refusal: u8,
     pub(crate) place: usize,

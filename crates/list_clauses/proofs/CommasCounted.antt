@@ -1,6 +1,6 @@
 -- The loop that counts commas, and that each step but the last passes one.
 -- Assumes nothing.
-use mathlib.Core.Path.{◌≡◌, refl, sym, ◌∙◌, ap}
+use mathlib.Core.Path.{◌≡◌}
 use mathlib.Core.Bool.{false}
 use mathlib.Core.List.{List, [], ◌∷◌}
 use Prim.Native.Nat.{ℕ, suc, ◌+◌, ◌≤◌, ◌<◌}
@@ -10,7 +10,7 @@ use lib.Dec.{eqb}
 use lib.ListN.{length, get_or, drop, length-drop, drop_of_length-le}
 use lib.Seq.{drop-cons, drop-drop}
 use borrow.Author.Tests.{lt-leb, leb-false}
-use Rattle.bytes.specs.Bytes.{index_after, index_of}
+use Rattle.chars.specs.Scan.{index_after, index_of}
 use Rattle.version.proofs.Answers.{flag_cases, holds, fails}
 use Rattle.list_clauses.specs.declared.step.Step.{Step}
 use Rattle.list_clauses.specs.Commas.{of_byte, commas_in}

@@ -2,7 +2,7 @@
 -- Assumes nothing.
 use mathlib.Core.List.{List}
 use Prim.Native.Nat.{ℕ}
-use Rattle.bytes.specs.Bytes.{index_after, index_of}
+use Rattle.chars.specs.Scan.{index_after, index_of}
 use Rattle.list_clauses.specs.Operator.{order_of, operator_of}
 use Rattle.list_clauses.specs.Trim.{trimmed_length}
 use Rattle.list_clauses.specs.Clause.{judged, pattern_clause, clause_of}

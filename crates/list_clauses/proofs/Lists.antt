@@ -1,7 +1,7 @@
 -- What a list is: too long, blank, or what its clauses are. The ways of counting them.
 -- Assumes nothing.
 use mathlib.Core.Path.{◌≡◌, refl, sym, ◌∙◌, ap}
-use mathlib.Core.Bool.{true, false}
+use mathlib.Core.Bool.{true}
 use mathlib.Core.List.{List, []}
 use Prim.Native.Nat.{ℕ, ◌+◌, ◌≤◌, ◌<◌}
 use native.Mathlib.Decide.{dec_lt, ℕ_discrete}
@@ -15,8 +15,8 @@ use Rattle.chars.proofs.Cases.{yes_lt, no_lt, yes_is, no_is}
 use Rattle.version_reading.specs.Reading.{longest}
 use Rattle.list_clauses.specs.declared.clause.Clause.{Clause}
 use Rattle.list_clauses.specs.declared.step.Step.{Step}
-use Rattle.list_clauses.specs.Step.{step_at, first_clauses}
-use Rattle.list_clauses.specs.List.{Listing, refused, clauses, clauses_from, list_of, count_of, checked}
+use Rattle.list_clauses.specs.Step.{step_at}
+use Rattle.list_clauses.specs.List.{refused, clauses, clauses_from, list_of, count_of, checked}
 use Rattle.list_clauses.proofs.Walks.{not_both, these, Walked, walk_none, walk_full, walk_refused, walk_last, first_count, AllRead, none_read, all_read_from}
 
 -- n blanks stand in front

@@ -1,13 +1,13 @@
 -- A list is refused with a number and a place exactly in the case of that row: in that case it is, and whatever it is refused with has a row.
 -- Assumes nothing.
 use mathlib.Core.Path.{◌≡◌, refl, sym, ◌∙◌, ap}
-use mathlib.Core.Bool.{true, false}
+use mathlib.Core.Bool.{false}
 use mathlib.Core.List.{List}
 use Prim.Native.Nat.{ℕ, zero, suc, ◌+◌, ◌-◌, ◌≤◌, ◌<◌}
 use native.Mathlib.Decide.{dec_lt, ℕ_discrete}
 use native.Mathlib.Omega.{arith}
 use lib.ListN.{length, drop, length-take, length-drop}
-use borrow.Author.Tests.{le-leb, lt-leb, leb-true, leb-false}
+use borrow.Author.Tests.{lt-leb, leb-false}
 use Rattle.chars.specs.Class.{blank, between, front}
 use Rattle.chars.proofs.Cases.{no_lt}
 use Rattle.version.proofs.Answers.{flag_cases, holds, fails}

@@ -1,16 +1,15 @@
 -- The ways of `part_at` and of `step_at`.
 -- Assumes nothing.
-use mathlib.Core.Path.{◌≡◌, refl, sym, ◌∙◌, ap}
-use mathlib.Core.Bool.{true, false, cond}
+use mathlib.Core.Path.{◌≡◌}
+use mathlib.Core.Bool.{true, false}
 use mathlib.Core.List.{List, []}
-use Prim.Native.Nat.{ℕ, ◌+◌, ◌-◌, ◌≤◌, ◌<◌}
+use Prim.Native.Nat.{ℕ, ◌+◌, ◌-◌, ◌≤◌, ◌<◌, max}
 use native.Mathlib.Omega.{arith}
-use lib.Dec.{leb}
 use lib.ListN.{length, drop, length-take, drop_of_length-le}
-use lib.Seq.{take-nil, take_all}
+use lib.Seq.{take-nil}
 use borrow.Author.Tests.{le-leb, lt-leb}
-use Rattle.bytes.specs.Bytes.{index_of, slice}
-use Rattle.chars.specs.Class.{blank, between, front}
+use Rattle.chars.specs.Scan.{index_of}
+use Rattle.chars.specs.Class.{between, front}
 use Rattle.chars.proofs.Cases.{yes_lt, no_lt}
 use Rattle.list_clauses.specs.declared.clause.Clause.{Clause}
 use Rattle.list_clauses.specs.declared.step.Part.{Part}
@@ -50,12 +49,12 @@ module _ (s : List ℕ) (start : ℕ) (outside : length s < start) where
   }
 
 -- within the list: `comma` is where a comma or the end was found, n bytes are left without trailing blanks, and m blanks lead them
-module _ (s : List ℕ) (start comma n m : ℕ) (e : comma ≡ start + index_of 44 (slice start (length s) s)) (h : comma ≤ length s)
+module _ (s : List ℕ) (start comma n m : ℕ) (e : comma ≡ start + index_of 44 (drop start s)) (h : comma ≤ max start (length s)) (i : start ≤ length s)
     (f : n ≡ trimmed_length (bytes_in s start comma)) (k : n ≤ length (bytes_in s start comma))
     (g : m ≡ front (between 1 1) (bytes_in s start (start + n))) (l : m ≤ length (bytes_in s start (start + n))) where
   comma_there : comma ≡ comma_after s start
-  unfolding comma_after slice
-  comma_there = rw (take_all (length s) s (omega arith)) at e
+  unfolding comma_after
+  comma_there = e
 
   end_there : start + n ≡ part_end s start
   unfolding part_end

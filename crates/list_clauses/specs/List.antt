@@ -1,5 +1,5 @@
 -- Lists of clauses: refusals 8 and 17, and the first clause's that is refused.
-use Rattle.std.specs.Prelude.{cond, List, [], ◌∷◌, ℕ, zero, suc, ◌+◌, eqb, ltb, length}
+use Rattle.std.specs.Prelude.{cond, List, [], ◌∷◌, ℕ, zero, suc, eqb, ltb, length}
 use Rattle.answers.specs.Refusal.{refusal}
 use Rattle.answers.specs.declared.Measured.{Measured}
 use Rattle.answers.specs.declared.Measured.TheVariants.{Length, Refused}

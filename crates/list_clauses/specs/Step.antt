@@ -1,7 +1,7 @@
 -- One step over a list: the clause that starts at a place, its part of the list, and where the next one starts. Clauses stand between commas.
 use Rattle.std.specs.Prelude.{◌≡◌, cond, List, [], ◌∷◌, ◌++◌, ℕ, zero, suc, ◌+◌, ◌-◌, ◌≤◌, max, leb, ltb, length, take, drop}
 use Prim.Native.Char.{code}
-use Rattle.bytes.specs.Bytes.{index_of}
+use Rattle.chars.specs.Scan.{index_of}
 use Rattle.chars.specs.Class.{blank, between, front}
 use Rattle.version_reading.specs.Reading.{longest}
 use Rattle.list_clauses.specs.declared.clause.Clause.{Clause}

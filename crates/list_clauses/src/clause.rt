@@ -7,7 +7,7 @@ use version_parts::fields::{Local, MaybeNumber, Pre, Release, Version};
 use version_reading::text::Verdict;
 
 // An operator and a pattern. A refusal's number is 0 where there is none, and nothing else is given beside one.
-#[derive(Drop)]
+#[derive(Clone, Copy)]
 pub struct Clause {
     pub refusal: u8,
     pub place: usize,

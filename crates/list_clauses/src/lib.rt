@@ -1,4 +1,6 @@
 // Lists of version clauses, and how they are read.
+#![tactic(auto)]
+
 pub mod clause;
 pub mod commas;
 pub mod list;

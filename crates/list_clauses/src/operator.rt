@@ -3,7 +3,7 @@ ghost use Rattle.list_clauses.specs.Operator.{Operated, operator_of, order_of};
 
 use chars::place::byte_at;
 
-#[derive(Drop)]
+#[derive(Clone, Copy)]
 pub enum Operator {
     Equal,
     NotEqual,
@@ -15,7 +15,7 @@ pub enum Operator {
 }
 
 // An operator at the front of a text, and its length.
-#[derive(Drop)]
+#[derive(Clone, Copy)]
 pub enum OperatorAt {
     Found(Operator, usize),
     Missing,

@@ -5,12 +5,12 @@ ghost use Rattle.list_clauses.specs.Step.{PartIs, StepIs, clause_between};
 
 use crate::clause::{Clause, read_clause, refused};
 use crate::trim::trimmed_len;
-use bytes::scan::find;
 use chars::class;
 use chars::place::part;
+use chars::scan::find;
 
 // A clause's part of the list, without outer blanks, and where the next clause starts. After the last one the list's end stands for that.
-#[derive(Drop)]
+#[derive(Clone, Copy)]
 pub struct Part {
     pub from: usize,
     pub to: usize,
@@ -18,7 +18,7 @@ pub struct Part {
     pub last: bool,
 }
 
-#[derive(Drop)]
+#[derive(Clone, Copy)]
 pub struct Step {
     pub clause: Clause,
     pub part: Part,
@@ -36,7 +36,7 @@ pub fn part_at(list: &[u8], start: usize) -> Part
             last: true,
         };
     }
-    let comma = find(list, start, list.len(), b',');
+    let comma = find(list, start, b',');
     let to = start + trimmed_len(&list[start..comma]);
     let from = start + class::run(&list[start..to], class::BLANK, class::BLANK);
     if comma == list.len() {

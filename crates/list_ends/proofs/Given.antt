@@ -1,14 +1,12 @@
 -- The ways of the functions that give a clause's ends.
 -- Assumes nothing.
-use mathlib.Core.Path.{◌≡◌, refl, sym, ◌∙◌, ap}
-use mathlib.Core.Bool.{Bool, true, false, cond}
-use mathlib.Core.List.{[], map}
-use mathlib.Core.Option.{some, none}
+use mathlib.Core.Path.{◌≡◌, refl, ◌∙◌, ap}
+use mathlib.Core.Bool.{Bool, true, false}
+use mathlib.Core.List.{[]}
 use Prim.Native.Nat.{ℕ, ◌-◌, ◌≤◌, min}
 use native.Mathlib.Omega.{arith}
 use lib.ListN.{length, length-take}
 use lib.Seq.{take-take}
-use borrow.Author.Rules.{length_unmapped}
 use Rattle.ranges.specs.Cut.{bot, top, before}
 use Rattle.version_parts.specs.declared.fields.Version.{Version}
 use Rattle.version_reading.specs.Value.{Value, value_of}
@@ -35,7 +33,7 @@ pub elsewhere : {p : Place} {room : ℕ} {r : End} (q : Place) (other : ℕ) →
 elsewhere q other h e k = record { is = h.is ∙ e; few = omega (arith, h.few); size = h.size }
 
 -- n is what `match_end` gives
-module _ (v : Version) (count : ℕ) (n : Next) (r : End) (size : length (map (λ x. x) v.release.numbers) ≡ 16) (h : count ≤ v.release.len)
+module _ (v : Version) (count : ℕ) (n : Next) (r : End) (size : length v.release.numbers ≡ 16) (h : count ≤ v.release.len)
     (e : n ≡ next_fields v.epoch v.release (min count 16)) where
   says : next_value n ≡ prefix_end (cut_to count (value_of [] v))
   says = rw e (next_says v count size h)
@@ -68,11 +66,11 @@ module _ (wildcard : Bool) (v : Version) (r : End) where
       EndIs (equal_end wildcard (value_of [] v)) (most v) r
   ends_match e h = rw e (elsewhere _ _ h (ap match_end whole) (omega arith))
 
-pub ends_compatible : (v : Version) (n m : ℕ) (r : End) → length (map (λ x. x) v.release.numbers) ≡ 16 → n ≡ min v.release.len 16 → m ≡ n - 1 →
+pub ends_compatible : (v : Version) (n m : ℕ) (r : End) → length v.release.numbers ≡ 16 → n ≡ min v.release.len 16 → m ≡ n - 1 →
     EndIs (match_end (cut_to m (value_of [] v))) (most v) r → EndIs (match_end (shorter (value_of [] v))) (most v) r
 unfolding value_of
 ends_compatible v n m r size e f h =
-    let long = length_unmapped ℕ v.release.numbers 16 size in
+    let long = size in
     let all : m ≡ length (value_of [] v).release - 1 = omega (arith, length-take v.release.len v.release.numbers) in
     rw all at h
 

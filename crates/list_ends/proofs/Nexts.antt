@@ -2,7 +2,7 @@
 -- Assumes nothing.
 use mathlib.Core.Path.{◌≡◌, refl}
 use mathlib.Core.Bool.{Bool, true, false, cond}
-use mathlib.Core.List.{List, [], ◌∷◌, ◌++◌, map}
+use mathlib.Core.List.{List, [], ◌∷◌, ◌++◌}
 use mathlib.Core.Option.{Option, none, some}
 use Prim.Native.Nat.{ℕ, zero, suc, ◌≤◌, min}
 use native.Mathlib.Numerals.{add-one}
@@ -10,7 +10,6 @@ use native.Mathlib.Omega.{arith}
 use lib.Dec.{eqb}
 use lib.ListN.{length, get_or, take}
 use lib.Seq.{take-suc, take-suc-set, take-take}
-use borrow.Author.Rules.{length_unmapped}
 use Rattle.version_parts.specs.declared.fields.Release.{Release}
 use Rattle.version_parts.specs.declared.fields.Version.{Version}
 use Rattle.version_parts.specs.Fields.{only_number}
@@ -71,11 +70,11 @@ next_of epoch r (suc i) h =
     go false ih = rw (dev_zero_says epoch (raised_at r i), raised_says r i h)
 
 -- with the first `count` numbers for a prefix, as many as the version has at most
-pub next_says : (v : Version) (count : ℕ) → length (map (λ x. x) v.release.numbers) ≡ 16 → count ≤ v.release.len →
+pub next_says : (v : Version) (count : ℕ) → length v.release.numbers ≡ 16 → count ≤ v.release.len →
     next_value (next_fields v.epoch v.release (min count 16)) ≡ prefix_end (cut_to count (value_of [] v))
 unfolding value_of next_prefix
 next_says v count size h =
-    let long : length v.release.numbers ≡ 16 = length_unmapped ℕ v.release.numbers 16 size in
+    let long : length v.release.numbers ≡ 16 = size in
     rw (take-take count v.release.len v.release.numbers h, ← counted v.release.numbers count (min count 16) size refl)
     (next_of v.epoch v.release (min count 16) (omega arith))
 

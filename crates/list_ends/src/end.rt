@@ -5,7 +5,7 @@ ghost use Rattle.list_ends.specs.End.{level_of, side_of, bottom, topmost};
 use version_parts::fields::Version;
 
 // Below all versions, above all, right before a version, or right after it.
-#[derive(Drop)]
+#[derive(Clone, Copy)]
 pub enum Side {
     Bottom,
     Top,
@@ -14,7 +14,7 @@ pub enum Side {
 }
 
 // A place between versions. Below all and above all stand beside the blank version.
-#[derive(Drop)]
+#[derive(Clone, Copy)]
 pub struct End {
     pub side: Side,
     pub version: Version,

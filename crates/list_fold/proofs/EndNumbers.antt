@@ -12,7 +12,7 @@ use Rattle.list_ends.specs.Cut.{Place}
 use Rattle.list_ends.specs.End.{bottom, topmost, most, EndIs}
 use Rattle.list_ends.specs.Ends.{first_end, second_end}
 use Rattle.list_ends.specs.Number.{place_from, place_number}
-use Rattle.list_ends.proofs.Given.{made-bottom, made-topmost, elsewhere}
+use Rattle.list_ends.proofs.Given.{made_bottom, made_topmost, elsewhere}
 
 -- the end `left` numbers on from a clause is always the same
 module _ (s : List ℕ) (start left : ℕ) (t : Place) (same : place_from s start left ≡ t) where
@@ -34,11 +34,11 @@ module _ (s : List ℕ) (start left : ℕ) (t : Place) (same : place_from s star
 module _ (s : List ℕ) (n : ℕ) (r : End) where
   pub number_bottom : n ≡ 0 → r ≡ bottom → EndIs (place_number s n) 16 r
   unfolding place_number
-  number_bottom z e = rw z (made-bottom 16 r e)
+  number_bottom z e = rw z (made_bottom 16 r e)
 
   pub number_topmost : n ≡ 1 → r ≡ topmost → EndIs (place_number s n) 16 r
   unfolding place_number
-  number_topmost z e = rw z (made-topmost 16 r e)
+  number_topmost z e = rw z (made_topmost 16 r e)
 
   pub number_clause : (n ≡ 0 → ⊥) → (n ≡ 1 → ⊥) → EndIs (place_from s 0 (n - 2)) 16 r → EndIs (place_number s n) 16 r
   unfolding place_number

@@ -1,7 +1,7 @@
 -- The shapes of a list's first clauses with numbers for ends, and their ranges: what they stand for, how many there are, which numbers they
 -- have, and one clause more.
 -- Assumes nothing.
-use mathlib.Core.Path.{◌≡◌, refl, sym, ◌∙◌, ap, ap₂}
+use mathlib.Core.Path.{◌≡◌, refl, sym, ◌∙◌, ap}
 use mathlib.Core.Bool.{Bool, true, false}
 use mathlib.Core.List.{List, [], ◌∷◌, ◌++◌, map, map-append}
 use Prim.Native.Nat.{ℕ, zero, suc, ◌+◌, ◌*◌, ◌≤◌, ◌<◌}
@@ -18,7 +18,7 @@ use Rattle.ranges.proofs.Same.{Shaped, Between, table_in, step_same}
 use Rattle.list_clauses.specs.declared.clause.Clause.{Clause}
 use Rattle.list_clauses.specs.Step.{clause_in, start_at, first_clauses}
 use Rattle.list_clauses.proofs.Walks.{first_count}
-use Rattle.list_ends.specs.Cut.{Place, le_place}
+use Rattle.list_ends.specs.Cut.{le_place}
 use Rattle.list_ends.specs.Ends.{first_end, second_end, hollow}
 use Rattle.list_ends.specs.Shape.{shaped, clause_shape, ranges_of}
 use Rattle.list_ends.specs.Number.{place_from, place_number}

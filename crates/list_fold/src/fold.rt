@@ -14,7 +14,7 @@ use list_clauses::step::step_at;
 use list_ends::end::End;
 
 // What a list says: how many clauses it has, or its refusal, and the ranges of what all of them accept. A refused list has none.
-#[derive(Drop)]
+#[derive(Clone, Copy)]
 pub struct Folded {
     pub checked: Measured,
     pub ranges: NumberedRanges,

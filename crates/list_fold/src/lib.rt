@@ -1,4 +1,6 @@
 // From a clause list to the numbers of its ranges' ends.
+#![tactic(auto)]
+
 mod clause;
 mod clip;
 pub mod end_number;

@@ -3,7 +3,7 @@ ghost use Rattle.std.specs.Prelude.{[], ◌∷◌, ◌++◌, ◌+◌, ◌<◌};
 ghost use Rattle.list_fold.specs.Ranges.{Holds, range, ranges_in};
 
 // The first `count` of each array; the others are 0. A list has at most 17 ranges, and a hole may leave two parts of each.
-#[derive(Drop)]
+#[derive(Clone, Copy)]
 pub struct NumberedRanges {
     pub lows: [u8; 34],
     pub highs: [u8; 34],

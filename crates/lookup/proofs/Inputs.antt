@@ -56,4 +56,6 @@ module _ (line shown : List ℕ) (s : Shown longest line shown) where
 -- all versions of an input
 pub same_answers : (table : List ℕ) (lines shown : List (List ℕ)) → AllShown longest lines shown → map (line_for table) shown ≡ map (line_for table) lines
 same_answers table [] [] s = refl
+same_answers table [] (x ∷ shown) s = elim s [ ]
+same_answers table (line ∷ lines) [] s = elim s [ ]
 same_answers table (line ∷ lines) (x ∷ shown) s = rw (shown_answer line x s.0 table, same_answers table lines shown s.1)

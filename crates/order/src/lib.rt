@@ -1,11 +1,13 @@
 // Comparing numbers and lists of numbers. The theory of comparison itself, which other crates build their orders on, is in specs/
 // (the definitions) and proofs/ (the laws).
+#![tactic(auto)]
+
 ghost use Rattle.std.specs.Prelude.{◌≡◌, get_or};
 ghost use Prim.Native.Nat.{compare, min, ◌≤◌};
 ghost use Rattle.order.specs.Compare.{padded};
 ghost use Rattle.order.specs.Answer.{name_of};
 
-#[derive(Drop)]
+#[derive(Clone, Copy)]
 pub enum Order {
     Less,
     Equal,

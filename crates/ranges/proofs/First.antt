@@ -81,26 +81,26 @@ module _ {P : Type 0} {le : P → P → Bool} (L : TotalPreorder le) where
     step_carried (span lo hi) p ls us T a =
         clip_all le (Carried le ls us) (Carried le (ls ++ (lo ∷ [])) (us ++ (hi ∷ []))) lo hi
         (λ r k n. record {
-          lower_first = lower_stands lo hi r n ls k.lower-first k.lowers-outside;
-          upper_first = upper_stands lo hi r n us k.upper_first k.uppers-outside;
-          lowers_outside = still_outside lo hi r ls lo k.lowers-outside (inl (new_lower L lo hi r));
-          uppers_outside = still_outside lo hi r us hi k.uppers-outside (inr (new_upper L lo hi r));
+          lower_first = lower_stands lo hi r n ls k.lower_first k.lowers_outside;
+          upper_first = upper_stands lo hi r n us k.upper_first k.uppers_outside;
+          lowers_outside = still_outside lo hi r ls lo k.lowers_outside (inl (new_lower L lo hi r));
+          uppers_outside = still_outside lo hi r us hi k.uppers_outside (inr (new_upper L lo hi r));
         }) T a
     step_carried (hole lo hi) p ls us T a =
         all_append (Carried le (ls ++ (hi ∷ [])) (us ++ (lo ∷ []))) (clip le bot lo T) (clip le hi top T)
         (clip_all le (Carried le ls us) (Carried le (ls ++ (hi ∷ [])) (us ++ (lo ∷ []))) bot lo
         (λ r k n. record {
-          lower_first = rw (B.least r.lo) (first_append le r.lo r.lo ls (hi ∷ []) k.lower-first);
-          upper_first = upper_stands bot lo r n us k.upper_first k.uppers-outside;
-          lowers_outside = still_outside bot lo r ls hi k.lowers-outside (inr (L.trans (new_upper L bot lo r) (L.total p)));
-          uppers_outside = still_outside bot lo r us lo k.uppers-outside (inr (new_upper L bot lo r));
+          lower_first = rw (B.least r.lo) (first_append le r.lo r.lo ls (hi ∷ []) k.lower_first);
+          upper_first = upper_stands bot lo r n us k.upper_first k.uppers_outside;
+          lowers_outside = still_outside bot lo r ls hi k.lowers_outside (inr (L.trans (new_upper L bot lo r) (L.total p)));
+          uppers_outside = still_outside bot lo r us lo k.uppers_outside (inr (new_upper L bot lo r));
         }) T a)
         (clip_all le (Carried le ls us) (Carried le (ls ++ (hi ∷ [])) (us ++ (lo ∷ []))) hi top
         (λ r k n. record {
-          lower_first = lower_stands hi top r n ls k.lower-first k.lowers-outside;
+          lower_first = lower_stands hi top r n ls k.lower_first k.lowers_outside;
           upper_first = rw (B.greatest r.hi) (first_append le r.hi r.hi us (lo ∷ []) k.upper_first);
-          lowers_outside = still_outside hi top r ls hi k.lowers-outside (inl (new_lower L hi top r));
-          uppers_outside = still_outside hi top r us lo k.uppers-outside (inl (L.trans (L.total p) (new_lower L hi top r)));
+          lowers_outside = still_outside hi top r ls hi k.lowers_outside (inl (new_lower L hi top r));
+          uppers_outside = still_outside hi top r us lo k.uppers_outside (inl (L.trans (L.total p) (new_lower L hi top r)));
         }) T a)
 
     compile_carried : (ss : List (Shape P)) → All (Proper le) ss → (ls us : List P) (T : List (Range P)) → All (Carried le ls us) T
@@ -115,7 +115,7 @@ module _ {P : Type 0} {le : P → P → Bool} (L : TotalPreorder le) where
     table_first ss p =
         all_weaker (Carried le (bot ∷ map lower_end ss) (top ∷ map upper_end ss))
         (λ r. IsFirst le (bot ∷ map lower_end ss) r.lo × IsFirst le (top ∷ map upper_end ss) r.hi)
-        (λ r k. (k.lower-first, k.upper_first)) (table le bot top ss)
+        (λ r k. (k.lower_first, k.upper_first)) (table le bot top ss)
         (compile_carried ss p (bot ∷ []) (top ∷ []) (record { lo = bot; hi = top } ∷ []) (everything, tt))
       where
         everything : Carried le (bot ∷ []) (top ∷ []) (record { lo = bot; hi = top })

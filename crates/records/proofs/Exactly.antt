@@ -94,5 +94,5 @@ module _ (s : List ℕ) where
           let f = found_at kind start next e in
           let b = body_stands (two_at s at) f.within in
           let head = head_text (two_at s at) (two_at s (at + 2)) in
-          rw (f.kind-is, f.start_is, f.next-is, b.0)
+          rw (f.kind_is, f.start_is, f.next_is, b.0)
           (four_stand (omega (arith, f.within)) ∙ ap (λ rest. head ++ rest) b.1 ∙ sym (append_assoc head _ _))

@@ -6,7 +6,7 @@ use crate::two_bytes::{put_two, two_at};
 
 // What stands at a place: a whole record, with its kind, the place where its body starts and the place after it; some bytes of a record, but
 // not all; or no byte at all.
-#[derive(Drop)]
+#[derive(Clone, Copy)]
 pub enum RecordAt {
     Found(usize, usize, usize),
     Cut,

@@ -1,21 +1,21 @@
 -- A local array is lent in part as a `&` slice, `&a[..k]`, and is room again when the loan is over. For a walk by hand; R is the type of the elements, any that has one machine value.
 --     apart        the local's cell, and what the array owns, are its elements side by side, and there are n
---     lends_part   of those the first k are lent for κ: what a `&κ [T]` on them owns, the lender's part of that, and the elements after them
---     part-back    κ is over: the local is room again
---     field-array  an array of a declared type, as a field of a struct owns it, is what the array owns by itself: the field has a tuple for each element
+--     lends_part   of those the first k are lent for κ, with tokens of lifetimes within it: what a `&κ [T]` on them owns, the lender's part of that, the elements after them, and the tokens
+--     part_back    κ is over: the local is room again
+--     field_array  an array of a declared type, as a field of a struct owns it, is what the array owns by itself: the field has a tuple for each element
 -- Assumes nothing.
 use mathlib.Core.Path.{◌≡◌, refl, sym, ◌∙◌, ap}
 use Prim.Native.Nat.{ℕ}
 use mathlib.Core.List.{List, [], ◌∷◌, ◌++◌, map}
 use lib.ListN.{length, take, drop as drop-list, take-append-drop, length-map}
 use seplogic.Ra.Ura.{Ura}
-use seplogic.Ra.TreeShare.{full_share}
+use base.Fraction.{full_share}
 use mir.Syntax.{Ty, Lifetime, ty_array}
 use mir.Val.{Val}
-use base.Logic.{ent, sep, ex, guard}
-use base.Fml.{Lft, GName, Fml, fsep, fat, fdead, flent}
-use types.Logic.{Logic, sem}
-use types.Kit.{‵, ◌⊛◌, some, later, ◌$◌, ◌∵◌, !, qed, by, move, drop, use1, use2, split, pick, rewrite, check, fsplit, fjoin, fpick, fpack, feq_l, feq_i, frame, show, await, updating, now as at_once, done}
+use base.Logic.{ent, sep, guard}
+use base.Fml.{Incl, Lft, Fml, fsep, fat, fdead, flent}
+use types.Logic.{Logic, sem, lfts}
+use types.Kit.{‵, raw, ◌⊛◌, later, ◌$◌, ◌∵◌, !, qed, by, move, keep, drop, use1, use2, split, rewrite, check, fsplit, fjoin, fpick, fpack, feq_l, feq_i, await, updating, now as at_once, done}
 use types.SemTy.{cells}
 use types.Share.{arr_parts}
 use types.Tokens.{lent_back}
@@ -26,7 +26,9 @@ use denote.Array.{each, array_val, shape, Array}
 use denote.ArrayMemory.{Single, Array-apart, Array-whole}
 use denote.Index.{row, whole_out, whole_in}
 use denote.Lend.{lends_shr_slice}
-use denote.Memory.{cell_at, lone, mem, part_at, part_of, shares}
+use denote.Memory.{cell_at, lone, mem, part_at, part_of, shared_of, shares}
+use denote.Shares.{SharesAsFrom}
+use ghost.Rules.{Toks, span}
 use denote.Slice.{Room, ShrSlice, slice_val}
 use denote.Struct.Declared as Declared
 use denote.Struct.Declared.{Declared}
@@ -64,17 +66,21 @@ module _ {M : Type 1} {𝓤 : Ura M} (𝓛 : Logic 𝓤) (R : RattleType) (n : �
     abbrev pub Behind : Fml
     Behind = cells (mem R) (drop-list k xs) b (at 0 (mem R).size (length (take k xs)))
 
-    -- what the slice owns, under the name γ
-    abbrev pub Lent : Lifetime → GName → Fml
-    Lent ℓ γ = (ShrSlice ℓ κ R).own_val (record { ref_ptr = (b, 0); now = take k xs }) (slice_val (b, 0) (length (take k xs)) ∷ [])
+    -- what the slice owns
+    abbrev pub Lent : Lifetime → Fml
+    Lent ℓ = (ShrSlice ℓ κ R).own_val (record { ref_ptr = (b, 0); now = take k xs }) (slice_val (b, 0) (length (take k xs)) ∷ [])
 
-    pub lends_part : (ℓ : Lifetime) → Room R n → ent 𝓤 (sem 𝓛 (cells (mem R) xs b 0)) (H.⇛ (ex 𝓤 (λ (γ : GName). sep 𝓤 (sem 𝓛 (Lent ℓ γ)) (sep 𝓤 (A.lent κ Part) (sem 𝓛 Behind)))))
-    lends_part ℓ room =
-        qed 𝓛 (‵ (cells (mem R) xs b 0) ∷ []) ∵ updating ! $ rewrite ! 0 (λ (ys : List R.Denot). ‵ (cells (mem R) ys b 0)) (sym (take-append-drop k xs)) refl $
+    -- what is shared of an element lives as long as l, and so do the lifetimes whose tokens ts are at hand
+    pub lends_part : (ℓ : Lifetime) (l' : Lft) → SharesAsFrom 𝓛 full_share R (shared_of R) l' → (ts : Toks) → Incl (span ts) l' → Incl (span ts) κ → Room R n →
+        ent 𝓤 (sep 𝓤 (sem 𝓛 (cells (mem R) xs b 0)) (lfts 𝓛 ts))
+        (H.⇛ (sep 𝓤 (sem 𝓛 (Lent ℓ)) (sep 𝓤 (A.lent κ Part) (sep 𝓤 (sem 𝓛 Behind) (lfts 𝓛 ts)))))
+    lends_part ℓ l' shared ts within around room =
+        qed 𝓛 (‵ (cells (mem R) xs b 0) ∷ raw (lfts 𝓛 ts) ∷ []) ∵ updating ! $ rewrite ! 0 (λ (ys : List R.Denot). ‵ (cells (mem R) ys b 0)) (sym (take-append-drop k xs)) refl $
         use1 𝓛 (‵ (cells (mem R) (take k xs) b 0) ⊛ ‵ Behind) (cut_app 𝓛 (mem R) (take k xs) (drop-list k xs) b 0) $ split ! $
         use1 𝓛 (‵ (row R full_share (take k xs) b 0)) (whole_out 𝓛 R (take k xs) b 0) $ feq_i ! ℕ (length (take k xs)) (length (take k xs)) refl $ fjoin ! $
-        use1 𝓛 (later (some (λ (γ : GName). ‵ (Lent ℓ γ) ⊛ ‵ (flent κ Part)))) (lends_shr_slice 𝓛 R ℓ κ full_share (take k xs) b 0 (Room-take R n k xs l room)) $ await ! tt $ pick ! (λ γ.
-        at_once ! $ show ! (λ (γ' : GName). sep 𝓤 (sem 𝓛 (Lent ℓ γ')) (sep 𝓤 (A.lent κ Part) (sem 𝓛 Behind))) γ $ split ! $ frame ! $ done !)
+        move ! (0 ∷ 2 ∷ []) $
+        use2 𝓛 (later ((‵ (Lent ℓ) ⊛ ‵ (flent κ Part)) ⊛ raw (lfts 𝓛 ts))) (lends_shr_slice 𝓛 R ℓ κ full_share (take k xs) b 0 (Room-take R n k xs l room) l' shared ts within around) $ await ! tt $ split ! $ split ! $
+        at_once ! $ keep ! (0 ∷ 1 ∷ 3 ∷ 2 ∷ []) $ done !
 
     pub part_back : ent 𝓤 (sep 𝓤 (A.dead κ) (sep 𝓤 (A.lent κ Part) (sem 𝓛 Behind))) (H.⇛ (H.room array_ty b 0))
     part_back =

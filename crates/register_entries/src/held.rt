@@ -5,7 +5,7 @@ ghost use Rattle.register_entries.specs.Held.{held_of, with_entry};
 use crate::entry::Entry;
 
 // The first `count` of the list; those after them are blank.
-#[derive(Drop)]
+#[derive(Clone, Copy)]
 pub struct Held {
     pub list: [Entry; 65],
     pub count: usize,

@@ -3,4 +3,3 @@ pub mod Guilty
 pub mod Searching
 pub mod Fitting
 pub mod Whole
-pub mod Slices

@@ -1,4 +1,6 @@
 // The register: which table fits a unit, by the version of its firmware.
+#![tactic(auto)]
+
 mod fit;
 mod guilt;
 pub mod lent;

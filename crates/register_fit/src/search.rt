@@ -12,7 +12,7 @@ use register_rules::lowest::Lowest;
 use table_lookup::lookup_row;
 use version_reading::text::Verdict;
 
-#[derive(Drop)]
+#[derive(Clone, Copy)]
 pub(crate) enum Searched {
     Found(Lowest),
     Bad(Refusal),

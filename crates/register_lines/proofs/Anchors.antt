@@ -7,7 +7,7 @@ use Prim.Native.String.{String}
 use lib.ListN.{replicate}
 use Rattle.answers.specs.Refusal.{refusal}
 use Rattle.answers.specs.Printed.{answer, filled}
-use Rattle.bytes.specs.Bytes.{index_after, index_of}
+use Rattle.chars.specs.Scan.{index_after, index_of}
 use Rattle.chars.specs.Text.{ascii}
 use Rattle.chars.specs.Class.{class_of, between, front}
 use Rattle.decimal.specs.Parse.{digit_of, value_from, number_of, leading_of}

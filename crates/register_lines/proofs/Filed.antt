@@ -8,7 +8,6 @@ use lib.ListN.{length, take, drop}
 use lib.Seq.{take-take}
 use Rattle.list_clauses.specs.declared.clause.Clause.{Clause}
 use Rattle.list_clauses.specs.List.{clauses, list_of}
-use Rattle.list_accepting.specs.Accept.{accepted}
 use Rattle.list_ends.specs.Shape.{ranges_of}
 use Rattle.table_reading.specs.Text.{table_text}
 use Rattle.table_agreement.proofs.Agreement.{compiled_well_formed, table_agrees}

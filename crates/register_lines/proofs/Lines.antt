@@ -6,18 +6,16 @@ use Prim.Native.Nat.{ℕ, ◌+◌, ◌-◌, ◌<◌, ◌≤◌}
 use native.Mathlib.Nat.{zero-add}
 use native.Mathlib.Omega.{arith}
 use lib.ListN.{length, take, drop, drop_of_length-le}
-use lib.Seq.{take-length}
 use borrow.Author.Tests.{lt-ltb, le-ltb}
-use Rattle.bytes.specs.Bytes.{slice, index_of}
+use Rattle.chars.specs.Scan.{index_of}
 use Rattle.chars.proofs.Parts.{take_rest}
 use Rattle.decimal.specs.declared.parse.Leading.{Leading}
 use Rattle.decimal.specs.declared.parse.Leading.TheVariants.{Absent, Read, TooBig}
 use Rattle.decimal.specs.Parse.{leading_of}
 use Rattle.register_lines.specs.Line.{space, space_at, id_where, id_said, id_of, list_in}
 
-pub space_found : (line : List ℕ) (r : ℕ) → r ≡ 0 + index_of space (slice 0 (length line) line) → r ≡ space_at line
-unfolding slice
-space_found line r e = rw (zero-add (index_of space (take (length line) line)), take-length line) at e
+pub space_found : (line : List ℕ) (r : ℕ) → r ≡ 0 + index_of space (drop 0 line) → r ≡ space_at line
+space_found line r e = e ∙ zero-add (index_of space line)
 
 -- by what stands at the front of the text
 module _ (text : List ℕ) (leading : Leading) (e : leading ≡ leading_of text) where

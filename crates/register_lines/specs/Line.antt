@@ -1,6 +1,6 @@
 -- A line of a register: an identifier, one blank, a list of clauses.
 use Rattle.std.specs.Prelude.{◌≡◌, cond, List, ℕ, ◌+◌, ◌≤◌, eqb, ltb, length, take, drop}
-use Rattle.bytes.specs.Bytes.{index_of}
+use Rattle.chars.specs.Scan.{index_of}
 use Rattle.decimal.specs.declared.parse.Leading.{Leading}
 use Rattle.decimal.specs.declared.parse.Leading.TheVariants.{Absent, Read, TooBig}
 use Rattle.decimal.specs.Parse.{leading_of}

@@ -2,15 +2,15 @@
 ghost use Rattle.std.specs.Prelude.{◌≡◌};
 ghost use Rattle.register_lines.specs.Line.{SpaceAt, id_where, id_said, id_of, list_in};
 
-use bytes::scan::find;
 use chars::place::part;
+use chars::scan::find;
 use decimal::parse::{Leading, leading_number};
 
 // Where the first blank stands, or the line's end where there is none.
 fn space_at(line: &[u8]) -> usize
     ensures { SpaceAt line.now result }
 {
-    find(line, 0, line.len(), b' ')
+    find(line, 0, b' ')
 }
 
 // A number that takes all the bytes of its text is an identifier if 16 bits can say it.

@@ -11,14 +11,14 @@ use register_entries::ids::has_id;
 use table_compile::compile;
 
 // The entries so far, and where the next table goes in the lent buffer.
-#[derive(Drop)]
+#[derive(Clone, Copy)]
 pub struct Shelf {
     pub held: Held,
     pub used: usize,
 }
 
 // Number 0 is no refusal: then the shelf has one entry more. Else it is as it was.
-#[derive(Drop)]
+#[derive(Clone, Copy)]
 pub struct Entered {
     pub refusal: Refusal,
     pub shelf: Shelf,

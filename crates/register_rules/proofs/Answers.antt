@@ -85,7 +85,7 @@ not_refusing es buffer n well i high r = ranges_not_refused (table_at es buffer 
 well_formed_all : (es : List Entry) (buffer : List ℕ) (n : ℕ) → ((i : ℕ) → i < n → Refusing (table_at es buffer i) → ⊥) → WellFormed es buffer n
 well_formed_all es buffer n f i high =
     elim (read_cases (table_at es buffer i)) [
-      | Read.IsRefused-as number place e some ↦ absurd (f i high (number, place, e))
+      | Read.refused_as number place e some ↦ absurd (f i high (number, place, e))
       | Read.says T e ↦ (T, e)
     ]
 

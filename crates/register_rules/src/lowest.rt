@@ -1,5 +1,5 @@
 // The two lowest identifiers of those that were met.
-#[derive(Drop)]
+#[derive(Clone, Copy)]
 pub enum Lowest {
     Nothing,
     One(u16),

@@ -1,7 +1,7 @@
 // The rules on entries that need no table.
 
 // Each is held against all entries before the next one is.
-#[derive(Drop)]
+#[derive(Clone, Copy)]
 pub enum Rule {
     // The identifier is 0.
     Zero,

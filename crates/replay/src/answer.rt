@@ -9,9 +9,10 @@ use crate::say::{put_fit, put_hex, put_reading, put_refusal, put_word, put_writt
 use crate::words::{word, word_count};
 use answers::{Measured, YesNo};
 use chars::place::part;
-use check::same;
+use chars::same::same_bytes;
 use decimal::put::{put_byte, put_bytes, put_number};
 use register_fit::plain::fit_held;
+use std::io::Write;
 use version_order::compared::Compared;
 use version_word::packed::Worded;
 
@@ -24,13 +25,13 @@ const FIRST_EVENT: usize = 10;
 const LARGEST_ROOM: usize = 16384;
 
 // Puts the answer and a line feed into the buffer, and says how long they are.
-pub(crate) fn answer(line: &[u8], out: &mut [u8]) -> usize {
+pub(crate) fn answer<W: Write>(output: &mut W, line: &[u8], out: &mut [u8]) -> usize {
     if LONGEST_LINE < line.len() {
         let end = no_question(out);
         return put_byte(out, end, b'\n');
     }
-    let mut texts = io::large_buffer();
-    let end = answer_words(line, &mut texts, out);
+    let mut texts = [0u8; 65536];
+    let end = answer_words(output, line, &mut texts, out);
     put_byte(out, end, b'\n')
 }
 
@@ -38,12 +39,12 @@ fn no_question(out: &mut [u8]) -> usize {
     put_bytes(out, 0, b"not a question")
 }
 
-fn answer_words(line: &[u8], texts: &mut [u8], out: &mut [u8]) -> usize {
+fn answer_words<W: Write>(output: &mut W, line: &[u8], texts: &mut [u8], out: &mut [u8]) -> usize {
     if is_register(line) {
         return of_register(line, texts, out);
     }
-    if same(word(line, 0), b"fragments") {
-        return of_fragments(line, texts, out);
+    if same_bytes(word(line, 0), b"fragments") {
+        return of_fragments(output, line, texts, out);
     }
     answer_kind(line, texts, out)
 }
@@ -65,7 +66,7 @@ fn is_register(line: &[u8]) -> bool {
     if word_count(line) != 4 {
         return false;
     }
-    same(word(line, 0), b"register")
+    same_bytes(word(line, 0), b"register")
 }
 
 // The version stands after the tables in the buffer.
@@ -85,9 +86,9 @@ fn of_register(line: &[u8], texts: &mut [u8], out: &mut [u8]) -> usize {
     put_fit(out, fit)
 }
 
-fn of_fragments(line: &[u8], texts: &mut [u8], out: &mut [u8]) -> usize {
+fn of_fragments<W: Write>(output: &mut W, line: &[u8], texts: &mut [u8], out: &mut [u8]) -> usize {
     if are_events(line, FIRST_EVENT, texts) {
-        return answer_events(line, FIRST_EVENT, texts, out);
+        return answer_events(output, line, FIRST_EVENT, texts, out);
     }
     no_question(out)
 }

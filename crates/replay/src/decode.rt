@@ -1,16 +1,16 @@
 // The words of a question as what they stand for: bytes in hexadecimal, and numbers.
-use check::same;
+use chars::same::same_bytes;
 use decimal::parse::{Leading, leading_number};
 use decimal::put::put_byte;
 
 // Where the bytes end in the buffer that they were put into.
-#[derive(Drop)]
+#[derive(Clone, Copy)]
 pub enum Decoded {
     End(usize),
     Bad,
 }
 
-#[derive(Drop)]
+#[derive(Clone, Copy)]
 pub enum Natural {
     Is(usize),
     Bad,
@@ -35,7 +35,7 @@ fn nibble(b: u8) -> u8 {
 
 // Puts the bytes of a word into the buffer from a place on.
 pub(crate) fn decode(word: &[u8], texts: &mut [u8], at: usize) -> Decoded {
-    if same(word, b"-") {
+    if same_bytes(word, b"-") {
         return Decoded::End(at);
     }
     if word.len() == 0 {

@@ -1,17 +1,17 @@
 // The events of a reader of lumps, as words say them, and what it says after each.
 use crate::decode::{Decoded, decode};
 use crate::say::put_reading;
-use bytes::scan::find;
 use chars::place::part;
-use check::same;
+use chars::same::same_bytes;
+use chars::scan::find;
 use decimal::put::put_bytes;
 use fragment_reader::reader;
 use fragment_rules::answer::Says;
 use fragment_rules::reader::Reader;
-use libc::STDOUT_FILENO;
+use std::io::Write;
 
 // A lump stands in front of the texts, up to its end.
-#[derive(Drop)]
+#[derive(Clone, Copy)]
 pub enum Event {
     Lump(usize),
     End,
@@ -20,10 +20,10 @@ pub enum Event {
 }
 
 fn event_of(word: &[u8], texts: &mut [u8]) -> Event {
-    if same(word, b"end") {
+    if same_bytes(word, b"end") {
         return Event::End;
     }
-    if same(word, b"reset") {
+    if same_bytes(word, b"reset") {
         return Event::Reset;
     }
     let Decoded::End(end) = decode(word, texts, 0) else {
@@ -43,7 +43,7 @@ fn is_bad(event: Event) -> bool {
 pub(crate) fn are_events(line: &[u8], from: usize, texts: &mut [u8]) -> bool {
     let mut at = from;
     while at < line.len() {
-        let end = find(line, at, line.len(), b' ');
+        let end = find(line, at, b' ');
         if is_bad(event_of(part(line, at, end), texts)) {
             return false;
         }
@@ -82,12 +82,18 @@ fn put_said(out: &mut [u8], state: Reader) -> usize {
 
 // Writes what is said after each event but the last, and puts that into the buffer: a line may have more events than the buffer has room
 // for.
-pub(crate) fn answer_events(line: &[u8], from: usize, texts: &mut [u8], out: &mut [u8]) -> usize {
+pub(crate) fn answer_events<W: Write>(
+    output: &mut W,
+    line: &[u8],
+    from: usize,
+    texts: &mut [u8],
+    out: &mut [u8],
+) -> usize {
     let mut state = reader::fresh();
     let mut at = from;
     let mut said = 0;
     while at < line.len() {
-        let end = find(line, at, line.len(), b' ');
+        let end = find(line, at, b' ');
         let event = event_of(part(line, at, end), texts);
         at = end + 1;
         state = after(state, event, texts);
@@ -95,8 +101,9 @@ pub(crate) fn answer_events(line: &[u8], from: usize, texts: &mut [u8], out: &mu
         if end == line.len() {
             return said;
         }
-        io::write_all(STDOUT_FILENO, part(out, 0, said));
-        io::write_all(STDOUT_FILENO, b" | ");
+        // Nobody is left to be told of a write that fails.
+        let _ = output.write_all(part(out, 0, said));
+        let _ = output.write_all(b" | ");
     }
     said
 }

@@ -1,7 +1,7 @@
 // The kinds of question, by the first word and the number of words.
-use check::same;
+use chars::same::same_bytes;
 
-#[derive(Drop)]
+#[derive(Clone, Copy)]
 pub enum OfText {
     Read,
     Pattern,
@@ -9,14 +9,14 @@ pub enum OfText {
     List,
 }
 
-#[derive(Drop)]
+#[derive(Clone, Copy)]
 pub enum OfNumber {
     Segment,
     Normal,
     Compile,
 }
 
-#[derive(Drop)]
+#[derive(Clone, Copy)]
 pub enum OfTexts {
     Compare,
     Accepts,
@@ -24,7 +24,7 @@ pub enum OfTexts {
 }
 
 // A question about a text, about a text and a number, or about two texts.
-#[derive(Drop)]
+#[derive(Clone, Copy)]
 pub enum Kind {
     Text(OfText),
     Number(OfNumber),
@@ -33,38 +33,38 @@ pub enum Kind {
 }
 
 fn of_two(word: &[u8]) -> Kind {
-    if same(word, b"read") {
+    if same_bytes(word, b"read") {
         return Kind::Text(OfText::Read);
     }
-    if same(word, b"pattern") {
+    if same_bytes(word, b"pattern") {
         return Kind::Text(OfText::Pattern);
     }
-    if same(word, b"word") {
+    if same_bytes(word, b"word") {
         return Kind::Text(OfText::Word);
     }
-    if same(word, b"list") {
+    if same_bytes(word, b"list") {
         return Kind::Text(OfText::List);
     }
     Kind::Unknown
 }
 
 fn of_three(word: &[u8]) -> Kind {
-    if same(word, b"segment") {
+    if same_bytes(word, b"segment") {
         return Kind::Number(OfNumber::Segment);
     }
-    if same(word, b"normal") {
+    if same_bytes(word, b"normal") {
         return Kind::Number(OfNumber::Normal);
     }
-    if same(word, b"compile") {
+    if same_bytes(word, b"compile") {
         return Kind::Number(OfNumber::Compile);
     }
-    if same(word, b"compare") {
+    if same_bytes(word, b"compare") {
         return Kind::Texts(OfTexts::Compare);
     }
-    if same(word, b"accepts") {
+    if same_bytes(word, b"accepts") {
         return Kind::Texts(OfTexts::Accepts);
     }
-    if same(word, b"lookup") {
+    if same_bytes(word, b"lookup") {
         return Kind::Texts(OfTexts::Lookup);
     }
     Kind::Unknown

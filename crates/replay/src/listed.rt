@@ -1,20 +1,20 @@
 // The entries of a register, as a word says them: `ID:START:LENGTH`, with commas between two.
 use crate::decode::{Natural, read_natural};
 use crate::words::{piece, piece_count};
-use check::same;
+use chars::same::same_bytes;
 use register_entries::entry::Entry;
 use register_entries::held::{Held, none_held, with_entry};
 
 const LARGEST_ID: usize = 65535;
 
-#[derive(Drop)]
+#[derive(Clone, Copy)]
 pub enum EntrySaid {
     Is(Entry),
     Bad,
 }
 
 // The entries, and whether the word said some.
-#[derive(Drop)]
+#[derive(Clone, Copy)]
 pub struct Listed {
     pub said: bool,
     pub held: Held,
@@ -50,7 +50,7 @@ fn read_entry(word: &[u8]) -> EntrySaid {
 // Entries after the 65th are read as well, and not held.
 pub(crate) fn read_entries(word: &[u8]) -> Listed {
     let mut held = none_held();
-    if same(word, b"-") {
+    if same_bytes(word, b"-") {
         return Listed { said: true, held };
     }
     let count = piece_count(word, b',');

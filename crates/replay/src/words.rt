@@ -1,19 +1,19 @@
 // The pieces of a line, with one separator between two: words between blanks, and what stands between commas or colons in a word.
-use bytes::scan::find;
+use chars::scan::find;
 
 // The piece with that index from 0, and no byte where there is none.
 pub(crate) fn piece(line: &[u8], index: usize, separator: u8) -> &[u8] {
     let mut at = 0;
     let mut left = index;
     while left > 0 {
-        let end = find(line, at, line.len(), separator);
+        let end = find(line, at, separator);
         if end == line.len() {
             return &line[..0];
         }
         at = end + 1;
         left -= 1;
     }
-    let end = find(line, at, line.len(), separator);
+    let end = find(line, at, separator);
     &line[at..end]
 }
 

@@ -1,4 +1,6 @@
 // Compiling a clause list into a range table.
+#![tactic(auto)]
+
 mod print;
 mod record;
 

@@ -43,10 +43,12 @@ module _ (s row : List ℕ) (verdict : Verdict) (q : Searched) (e : q ≡ search
 -- the ends of a well-formed table have rows
 lower_room : (p : Place) → Lower p → HasRoom (value p)
 lower_room bot h = tt
+lower_room top h = elim h [ ]
 lower_room (before v) h = h.readable.few
 lower_room (after v) h = h.readable.few
 
 upper_room : (p : Place) → Upper p → HasRoom (value p)
+upper_room bot h = elim h [ ]
 upper_room top h = tt
 upper_room (before v) h = h.readable.few
 upper_room (after v) h = h.readable.few

@@ -12,7 +12,7 @@ use version_rows::normal::normal_row;
 
 // Whether an end was found, the place after its record, and its side; its row stands beside it. Where none was found, the next one is due at
 // `next`.
-#[derive(Drop)]
+#[derive(Clone, Copy)]
 pub struct EndAt {
     pub found: bool,
     pub next: usize,

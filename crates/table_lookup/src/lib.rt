@@ -1,4 +1,6 @@
 // Looking a version up in a table. The version and the table's ends are rows of numbers, which compare as the versions do.
+#![tactic(auto)]
+
 mod end;
 mod end_at;
 pub mod search;

@@ -12,7 +12,7 @@ use records::two_bytes::two_at;
 use table_reading::kind::{Due, Kind, kind_of};
 
 // Whether a range holds the version, or why the table is refused.
-#[derive(Drop)]
+#[derive(Clone, Copy)]
 pub enum Searched {
     Held(bool),
     Refused(Refusal),

@@ -22,14 +22,14 @@ pub const TO_BEFORE: usize = 6;
 pub const TO_AFTER: usize = 7;
 
 // The two ends of a range: the one that is due, or the one that a record holds.
-#[derive(Drop)]
+#[derive(Clone, Copy)]
 pub enum Due {
     Lower,
     Upper,
 }
 
 // The count of the ranges, an end with its side, or nothing that a table may hold.
-#[derive(Drop)]
+#[derive(Clone, Copy)]
 pub enum Kind {
     Count,
     End(Due, Side),

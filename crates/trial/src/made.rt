@@ -2,7 +2,7 @@
 use decimal::put::{put_byte, put_bytes};
 
 // Where a text ends, and the seed for what comes next.
-#[derive(Drop)]
+#[derive(Clone, Copy)]
 pub struct Made {
     pub end: usize,
     pub seed: u64,

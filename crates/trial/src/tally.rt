@@ -6,7 +6,7 @@ use decimal::put::{put_bytes, put_number};
 
 const VERSIONS: u64 = 8;
 
-#[derive(Drop)]
+#[derive(Clone, Copy)]
 pub struct Tally {
     pub yes: u64,
     pub no: u64,
@@ -15,7 +15,7 @@ pub struct Tally {
     pub seed: u64,
 }
 
-#[derive(Drop)]
+#[derive(Clone, Copy)]
 enum Both {
     Yes,
     No,

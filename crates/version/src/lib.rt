@@ -1,4 +1,6 @@
 // The version layer's promises: each entry point takes any bytes, and says all of its answer.
+#![tactic(auto)]
+
 mod comparing;
 pub mod reading;
 

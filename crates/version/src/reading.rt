@@ -8,7 +8,7 @@ use version_reading::text::{Verdict, read_by_rules};
 use version_word::packed::{Word, word_of, word_of_plain};
 
 // The fields of a version and its word, or its refusal. The word 0, which no version has, says that the version is not small or the text refused.
-#[derive(Drop)]
+#[derive(Clone, Copy)]
 pub struct Reading {
     pub verdict: Verdict,
     pub version: Version,

@@ -1,13 +1,12 @@
 -- The ways of `compare_release` and `matches_prefix`: the part of a release's array that counts, at most 16 numbers whatever its length says.
 -- Assumes nothing.
 use mathlib.Core.Path.{◌≡◌, sym, ◌∙◌, ap}
-use mathlib.Core.List.{List, [], ◌∷◌, map}
+use mathlib.Core.List.{List, [], ◌∷◌}
 use Prim.Native.Nat.{ℕ, zero, suc, ◌≤◌, min, compare}
 use native.Mathlib.Nat.{zero-min, suc-min-suc}
 use native.Mathlib.Omega.{arith}
 use lib.ListN.{length, take}
 use lib.Seq.{length-take-le, take-nil}
-use borrow.Author.Rules.{length_unmapped}
 use Rattle.order.specs.Compare.{padded}
 use Rattle.order.specs.Answer.{name_of}
 use Rattle.order.specs.declared.Order.{Order}
@@ -23,9 +22,9 @@ take_min zero (x ∷ l) = rw zero-min
 take_min (suc n) (x ∷ l) = rw suc-min-suc (ap (λ (t : List ℕ). x ∷ t) (take_min n l))
 
 -- m numbers of the array l count
-module _ (l : List ℕ) (n m : ℕ) (size : length (map (λ k. k) l) ≡ 16) (e : m ≡ min n 16) where
+module _ (l : List ℕ) (n m : ℕ) (size : length l ≡ 16) (e : m ≡ min n 16) where
   long : length l ≡ 16
-  long = length_unmapped ℕ l 16 size
+  long = size
 
   pub count_within : m ≤ length l
   count_within = omega (arith, long)
@@ -37,8 +36,8 @@ module _ (l : List ℕ) (n m : ℕ) (size : length (map (λ k. k) l) ≡ 16) (e 
   counted = rw (e, ← long) (take_min n l)
 
 -- the epochs are equal, by q, and r is how the parts compare
-pub release_compared : (v w : Version) (m n : ℕ) (q r : Order) → length (map (λ k. k) v.release.numbers) ≡ 16 →
-    length (map (λ k. k) w.release.numbers) ≡ 16 → m ≡ min v.release.len 16 → n ≡ min w.release.len 16 →
+pub release_compared : (v w : Version) (m n : ℕ) (q r : Order) → length v.release.numbers ≡ 16 →
+    length w.release.numbers ≡ 16 → m ≡ min v.release.len 16 → n ≡ min w.release.len 16 →
     q ≡ name_of (compare v.epoch w.epoch) → q ≡ Equal →
     r ≡ name_of (padded compare 0 (take m v.release.numbers) (take n w.release.numbers)) →
     r ≡ name_of (compare_release (value_of [] v) (value_of [] w))

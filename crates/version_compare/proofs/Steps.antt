@@ -1,24 +1,17 @@
 -- One comparison after another, as the code makes them: a difference is the answer, and where there is none the next one answers.
 -- Assumes nothing.
 use mathlib.Core.Path.{◌≡◌, refl}
-use mathlib.Core.Logic.{inl, inr}
-use mathlib.Core.List.{[], ◌∷◌}
-use native.Mathlib.Omega.{arith}
-use types.Run.{OneOf}
-use denote.Enum.Declared.{tag_of}
-use Rattle.order.specs.contracts.Order.{the_type}
 use Rattle.order.specs.Ordering.{Ordering, lt, eq, gt, also}
 use Rattle.order.specs.declared.Order.{Order}
 use Rattle.order.specs.declared.Order.TheVariants.{Equal}
 use Rattle.order.specs.Answer.{name_of}
 
--- what is known in the `else` of `let Order::Equal = r`: r is the first answer or the third
+-- what is known in the `else` of `let Order::Equal = r`
 abbrev pub Differs : Order → Type 0
-Differs r = OneOf (0 ∷ 2 ∷ []) (tag_of the_type r)
+Differs r = r ≡ Equal → ⊥
 
 not_equal : Differs Equal → ⊥
-not_equal (inl e) = omega arith
-not_equal (inr e) = omega arith
+not_equal d = d refl
 
 pub decided : (r : Order) (o p : Ordering) → r ≡ name_of o → Differs r → r ≡ name_of (also o p)
 decided r lt p e d = e

@@ -2,7 +2,7 @@
 use answers::Refusal;
 
 // How the first version compares with the second, or which text was refused.
-#[derive(Drop)]
+#[derive(Clone, Copy)]
 pub enum Compared {
     Less,
     Equal,

@@ -2,7 +2,7 @@
 use version_parts::fields::MaybeNumber;
 
 // What decides between versions of one release, in this order.
-#[derive(Drop)]
+#[derive(Clone, Copy)]
 pub struct Key {
     pub kind: u64,
     pub pre: u64,

@@ -1,3 +1,5 @@
 // The order of versions, defined: the words that it is said in, whose meaning is in specs/, and its laws in proofs/Orders.
+#![tactic(auto)]
+
 pub mod compared;
 pub mod key;

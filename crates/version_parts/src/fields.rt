@@ -5,39 +5,39 @@ ghost use Rattle.version_parts.specs.Fields.{Numbers, Spans, no_release, only_nu
 use chars::spelling::PreKind;
 
 // The first len numbers count; the others are 0.
-#[derive(Drop)]
+#[derive(Clone, Copy)]
 pub struct Release {
     pub numbers: [u64; 16],
     pub len: usize,
 }
 
-#[derive(Drop)]
+#[derive(Clone, Copy)]
 pub enum Pre {
     Absent,
     Is(PreKind, u64),
 }
 
-#[derive(Drop)]
+#[derive(Clone, Copy)]
 pub enum MaybeNumber {
     Absent,
     Is(u64),
 }
 
 // A place in the text: it has at most 1,024 bytes, so that 16 bits do and the array stays small.
-#[derive(Drop)]
+#[derive(Clone, Copy)]
 pub struct Span {
     pub start: u16,
     pub end: u16,
 }
 
 // The segments of a local label, as places in the text. The first len spans count; the others are 0.
-#[derive(Drop)]
+#[derive(Clone, Copy)]
 pub struct Local {
     pub spans: [Span; 16],
     pub len: usize,
 }
 
-#[derive(Drop)]
+#[derive(Clone, Copy)]
 pub struct Version {
     pub epoch: u64,
     pub release: Release,

@@ -11,7 +11,7 @@ use chars::class;
 use chars::place::byte_at;
 
 // What rules 1 to 3 read, and where the rest begins. A refusal's number is 0 where there is none, and nothing else is given beside one.
-#[derive(Drop)]
+#[derive(Clone, Copy)]
 pub struct Head {
     pub refusal: u8,
     pub place: usize,

@@ -6,7 +6,7 @@ use chars::place::byte_at;
 use decimal::parse::{Leading, leading_number};
 
 // A number at a place: none, its value and the place after it, or one of 2^64 and more.
-#[derive(Drop)]
+#[derive(Clone, Copy)]
 pub enum NumberAt {
     Absent,
     Read(u64, usize),

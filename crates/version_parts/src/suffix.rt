@@ -8,25 +8,25 @@ use crate::places::{NumberAt, marked_number, number_at, separator_end};
 use chars::spelling::{PreSpelling, Spelling, dev_spelling, post_spelling, pre_spelling};
 
 // The number of a part: its value and the place after it, or the place of a number of 2^64 and more.
-#[derive(Drop)]
+#[derive(Clone, Copy)]
 pub enum Count {
     Read(u64, usize),
     TooBig(usize),
 }
 
-#[derive(Drop)]
+#[derive(Clone, Copy)]
 pub enum PreStep {
     Read(Pre, usize),
     TooBig(usize),
 }
 
-#[derive(Drop)]
+#[derive(Clone, Copy)]
 pub enum PartStep {
     Read(MaybeNumber, usize),
     TooBig(usize),
 }
 
-#[derive(Drop)]
+#[derive(Clone, Copy)]
 pub enum Suffix {
     Read(Pre, MaybeNumber, MaybeNumber, usize),
     TooBig(usize),

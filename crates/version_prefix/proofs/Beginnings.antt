@@ -2,7 +2,7 @@
 -- Assumes nothing.
 use mathlib.Core.Path.{◌≡◌, refl, sym, ap}
 use mathlib.Core.Bool.{Bool, true, false, ◌&&◌}
-use mathlib.Core.List.{List, [], ◌∷◌, ◌++◌, map}
+use mathlib.Core.List.{List, [], ◌∷◌, ◌++◌}
 use Prim.Native.Nat.{ℕ, zero, suc, ◌+◌, ◌-◌, ◌≤◌, ◌<◌, min}
 use native.Mathlib.Nat.{le_refl, zero-min, min-zero, suc-min-suc}
 use native.Mathlib.Numerals.{add-one}
@@ -10,7 +10,6 @@ use native.Mathlib.Omega.{arith}
 use lib.Dec.{eqb}
 use lib.ListN.{length, get_or, take, drop, replicate, length-take, drop_of_length-le}
 use lib.Seq.{drop-cons, take-nil, take-take}
-use borrow.Author.Rules.{length_unmapped}
 use borrow.Author.Tests.{eq-eqb, ne_eqb}
 use Rattle.order.proofs.Padded.{head_of_drop, tail_of_drop}
 use Rattle.version_parts.specs.declared.fields.Version.{Version}
@@ -58,7 +57,7 @@ take_both (suc m) (suc n) [] = take-nil (min (suc m) (suc n))
 take_both (suc m) (suc n) (x ∷ l) = rw (suc-min-suc m n, take_both m n l)
 
 -- m numbers of the array p, and n of the array l
-pub parts_begin : (p l : List ℕ) (len count few m size n : ℕ) (r : Bool) → length (map (λ k. k) p) ≡ 16 → length (map (λ k. k) l) ≡ 16 →
+pub parts_begin : (p l : List ℕ) (len count few m size n : ℕ) (r : Bool) → length p ≡ 16 → length l ≡ 16 →
     few ≡ min len count → m ≡ min few 16 → n ≡ min size 16 → r ≡ begins (take m p) (take n l) → r ≡ begins (take count (take len p)) (take size l)
 parts_begin p l len count few m size n r s t e f g h =
     rw (← take_both len count p, ← e, ← counted p few m s f, ← counted l size n t g) h
@@ -87,9 +86,9 @@ unfolding value_of
 shorter_matches v w count r e f = rw e at f
 
 -- the first `len` of the array's numbers count
-module _ (l : List ℕ) (len n : ℕ) (size : length (map (λ k. k) l) ≡ 16) (e : n ≡ min len 16) where
+module _ (l : List ℕ) (len n : ℕ) (size : length l ≡ 16) (e : n ≡ min len 16) where
   pub none_but_last : n ≡ 0 → 0 ≡ length (take len l) - 1
-  none_but_last f = omega (arith, length-take len l, length_unmapped ℕ l 16 size)
+  none_but_last f = omega (arith, length-take len l, size)
 
   pub some_but_last : n - 1 ≡ length (take len l) - 1
-  some_but_last = omega (arith, length-take len l, length_unmapped ℕ l 16 size)
+  some_but_last = omega (arith, length-take len l, size)

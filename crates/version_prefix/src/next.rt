@@ -8,7 +8,7 @@ use order::smaller;
 use version_parts::fields::{Local, MaybeNumber, Pre, Release, Version};
 
 // The version before which a match ends. Where there is no end, the version is the blank one.
-#[derive(Drop)]
+#[derive(Clone, Copy)]
 pub struct Next {
     pub exists: bool,
     pub version: Version,

@@ -10,7 +10,7 @@ use version_parts::fields::{Local, Span};
 use version_parts::places::separator_end;
 
 // What rule 8 reads, and where the rest begins. A refusal's number is 0 where there is none, and nothing else is given beside one.
-#[derive(Drop)]
+#[derive(Clone, Copy)]
 pub struct LabelRead {
     pub refusal: u8,
     pub place: usize,

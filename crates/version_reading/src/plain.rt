@@ -24,7 +24,7 @@ use version_parts::places::{NumberAt, marked_number, number_at};
 use version_parts::suffix::{Suffix, read_suffix};
 
 // The release numbers, and how many they are. Those that are not there are 0. Each number has a field of its own, and so a step of its own.
-#[derive(Drop)]
+#[derive(Clone, Copy)]
 pub struct PlainHead {
     pub count: usize,
     pub first: u64,
@@ -34,7 +34,7 @@ pub struct PlainHead {
     pub at: usize,
 }
 
-#[derive(Drop)]
+#[derive(Clone, Copy)]
 pub struct Plain {
     pub count: usize,
     pub first: u64,
@@ -47,7 +47,7 @@ pub struct Plain {
 }
 
 // A text that is not found here may still be a version; the plain one beside it is blank.
-#[derive(Drop)]
+#[derive(Clone, Copy)]
 pub struct PlainReading {
     pub found: bool,
     pub plain: Plain,

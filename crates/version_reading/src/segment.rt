@@ -9,7 +9,7 @@ use decimal::parse::{Number, parse_u64};
 use version_parts::fields::Local;
 
 // What a segment's bytes say: a number below 2^64, or text.
-#[derive(Drop)]
+#[derive(Clone, Copy)]
 pub enum Segment {
     Number(u64),
     Text,

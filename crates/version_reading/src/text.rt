@@ -11,21 +11,21 @@ use version_parts::fields::{Local, MaybeNumber, Pre, Version};
 use version_parts::head::{Head, read_head};
 use version_parts::suffix::{Suffix, read_suffix};
 
-#[derive(Drop)]
+#[derive(Clone, Copy)]
 pub enum Verdict {
     Accepted,
     Refused(Refusal),
 }
 
 // A version, and whether a wildcard stands after it. Where it is refused, the version is the blank one and there is no wildcard.
-#[derive(Drop)]
+#[derive(Clone, Copy)]
 pub struct PatternReading {
     pub verdict: Verdict,
     pub wildcard: bool,
     pub version: Version,
 }
 
-#[derive(Drop)]
+#[derive(Clone, Copy)]
 pub struct VersionReading {
     pub verdict: Verdict,
     pub version: Version,

@@ -1,14 +1,13 @@
 -- The ways of the functions that make rows: the release's numbers in a row of zeros.
 -- Assumes nothing.
 use mathlib.Core.Path.{◌≡◌, refl, sym, ◌∙◌, ap}
-use mathlib.Core.List.{List, [], ◌∷◌, ◌++◌, map, append_assoc}
+use mathlib.Core.List.{List, [], ◌∷◌, ◌++◌, append_assoc}
 use Prim.Native.Nat.{ℕ, zero, suc, ◌+◌, ◌-◌, ◌≤◌, ◌<◌, min}
 use native.Mathlib.Nat.{sub-zero}
 use native.Mathlib.Numerals.{add-one}
 use native.Mathlib.Omega.{arith}
 use lib.ListN.{length, take, drop, get_or, set, replicate, length-replicate}
 use lib.Seq.{paste, paste-suc, length-take-le, drop-append-le}
-use borrow.Author.Rules.{length_unmapped}
 use Rattle.version_parts.specs.declared.fields.Version.{Version}
 use Rattle.version_reading.specs.declared.plain.Plain.{Plain}
 use Rattle.version_reading.specs.Plain.{Filled, FilledPlain, whole_version}
@@ -27,10 +26,10 @@ four_put epoch first second third fourth e a b c d mark number k p q r s t f g =
 
 -- one release number more
 pub release_turn : (row numbers filled : List ℕ) (i count n : ℕ) → filled ≡ paste row 1 numbers i → length row ≡ 22
-    → length (map (λ x. x) numbers) ≡ 16 → i < count → count ≡ min n 16
+    → length numbers ≡ 16 → i < count → count ≡ min n 16
     → set filled (1 + i) (get_or numbers i 0) ≡ paste row 1 numbers (i + 1)
 release_turn row numbers filled i count n e h k l m =
-    rw (e, add-one i) (paste-suc row 1 numbers i 0 (omega arith) (omega (arith, length_unmapped ℕ numbers 16 k)))
+    rw (e, add-one i) (paste-suc row 1 numbers i 0 (omega arith) (omega (arith, k)))
 
 pub release_end : (row numbers filled : List ℕ) (i count n : ℕ) → filled ≡ paste row 1 numbers i → i ≤ count → count ≤ i → count ≡ min n 16
     → filled ≡ paste row 1 numbers (min n 16)
@@ -50,12 +49,12 @@ filled_row epoch n k l s h =
     rw (one, zeros, length-take-le n l (omega arith)) (ap (λ (t : List ℕ). epoch ∷ t) (sym (append_assoc (take n l) (replicate (16 - n) 0) k)))
 
 -- the way of `row_of`
-pub row_filled : (v : Version) (k : Key) (blank r : List ℕ) → length (map (λ x. x) v.release.numbers) ≡ 16
+pub row_filled : (v : Version) (k : Key) (blank r : List ℕ) → length v.release.numbers ≡ 16
     → k ≡ key_of v.pre v.post v.dev → blank ≡ v.epoch ∷ (replicate 16 0 ++ key_numbers k)
     → r ≡ paste blank 1 v.release.numbers (min v.release.len 16) → RowOf (value_of [] v) r
 unfolding row_of value_of
 row_filled v k blank r s g e f =
-    let long : length v.release.numbers ≡ 16 = length_unmapped ℕ v.release.numbers 16 s in
+    let long : length v.release.numbers ≡ 16 = s in
     let count : min v.release.len 16 ≤ 16 = omega arith in
     let those = counted v.release.numbers v.release.len (min v.release.len 16) s refl in
     record {

@@ -9,7 +9,7 @@ use decimal::parse::LARGEST;
 use version_parts::fields::MaybeNumber;
 
 // A part that stands at a place, and the place after it; where there is none, the place itself.
-#[derive(Drop)]
+#[derive(Clone, Copy)]
 pub struct PartAt {
     pub part: MaybeNumber,
     pub next: usize,

@@ -15,7 +15,7 @@ use version_parts::fields::Version;
 use version_reading::text::{Verdict, read_by_rules};
 
 // The version that was read of a text. It counts only where the text is valid: the normal text of a version without a label.
-#[derive(Drop)]
+#[derive(Clone, Copy)]
 pub struct NormalReading {
     pub valid: bool,
     pub version: Version,

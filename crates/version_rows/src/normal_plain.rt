@@ -11,7 +11,7 @@ use chars::spelling::PreKind;
 use version_parts::fields::{MaybeNumber, Pre};
 use version_reading::plain::{PlainHead, PlainReading, found, not_found};
 
-#[derive(Drop)]
+#[derive(Clone, Copy)]
 pub struct PreAt {
     pub pre: Pre,
     pub next: usize,

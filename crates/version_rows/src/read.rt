@@ -10,7 +10,7 @@ use version_reading::plain::read_plain;
 use version_reading::text::{Verdict, read_by_rules};
 
 // What is said of a pattern beside its row: whether a wildcard follows, how many release numbers it has, and whether it has a label.
-#[derive(Drop)]
+#[derive(Clone, Copy)]
 pub struct PatternRow {
     pub verdict: Verdict,
     pub wildcard: bool,

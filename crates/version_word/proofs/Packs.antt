@@ -2,13 +2,12 @@
 -- Assumes nothing.
 use mathlib.Core.Path.{◌≡◌, refl, ◌∙◌}
 use mathlib.Core.Bool.{Bool, true, false, and-false}
-use mathlib.Core.List.{List, [], map}
+use mathlib.Core.List.{List, []}
 use Prim.Native.Nat.{ℕ, ◌+◌, ◌-◌, ◌*◌, ◌^◌, ◌≤◌, ◌<◌, min}
 use mir.Val as Width
 use mir.Syntax.{w64}
 use native.Mathlib.Omega.{arith}
 use lib.ListN.{length, get_or, take, length-take}
-use borrow.Author.Rules.{length_unmapped}
 use borrow.Author.Tests.{ne_eqb, lt-leb}
 use Rattle.version_parts.specs.declared.fields.Pre.{Pre}
 use Rattle.version_parts.specs.declared.fields.MaybeNumber.{MaybeNumber}
@@ -83,10 +82,10 @@ module _ (v : Version) where
   unfolding word_beside is_small value_of
   epoch_large h = rw (ne_eqb _ _ h)
 
-  pub release_long : length (map (λ k. k) v.release.numbers) ≡ 16 → 4 < v.release.len → word_is 0 ≡ word_beside (value_of [] v)
+  pub release_long : length v.release.numbers ≡ 16 → 4 < v.release.len → word_is 0 ≡ word_beside (value_of [] v)
   unfolding word_beside is_small small_release value_of
   release_long e h =
-      let many : 4 < length numbers = omega (arith, length-take v.release.len v.release.numbers, length_unmapped ℕ v.release.numbers 16 e) in
+      let many : 4 < length numbers = omega (arith, length-take v.release.len v.release.numbers, e) in
       simp (lt-leb (length numbers) 4 many, and-false)
 
   pub label_there : (v.local.len ≡ 0 → ⊥) → word_is 0 ≡ word_beside (value_of [] v)

@@ -1,12 +1,11 @@
 -- The ways of the functions that make the parts of a word.
 -- Assumes nothing.
 use mathlib.Core.Path.{◌≡◌, sym}
-use mathlib.Core.List.{List, map}
+use mathlib.Core.List.{List}
 use Prim.Native.Nat.{ℕ, ◌+◌, ◌*◌, ◌≤◌, ◌<◌}
 use native.Mathlib.Omega.{arith}
 use lib.ListN.{length, get_or, take, length-take, get_or-eq_default}
 use lib.Seq.{get_or-take}
-use borrow.Author.Rules.{length_unmapped}
 use borrow.Author.Tests.{le-leb, lt-leb}
 use Rattle.chars.specs.declared.spelling.PreKind.{PreKind}
 use Rattle.version_parts.specs.declared.fields.Pre.{Pre}
@@ -23,8 +22,8 @@ module _ (l : List ℕ) (len at : ℕ) where
   pub number_behind : len ≤ at → 0 ≡ get_or (take len l) at 0
   number_behind h = sym (get_or-eq_default (take len l) 0 (omega (arith, length-take len l)))
 
-  pub number_outside : length (map (λ k. k) l) ≡ 16 → 16 ≤ at → 0 ≡ get_or (take len l) at 0
-  number_outside e h = sym (get_or-eq_default (take len l) 0 (omega (arith, length-take len l, length_unmapped ℕ l 16 e)))
+  pub number_outside : length l ≡ 16 → 16 ≤ at → 0 ≡ get_or (take len l) at 0
+  number_outside e h = sym (get_or-eq_default (take len l) 0 (omega (arith, length-take len l, e)))
 
   pub number_there : at < len → get_or l at 0 ≡ get_or (take len l) at 0
   number_there h = sym (get_or-take len l at 0 h)

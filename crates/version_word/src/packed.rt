@@ -10,11 +10,11 @@ use version_parts::fields::{MaybeNumber, Pre, Version};
 use version_reading::plain::Plain;
 
 // A word by itself, so that it is no release number. No version has the word 0: beside a version's fields it stands for none.
-#[derive(Drop)]
+#[derive(Clone, Copy)]
 pub struct Word(pub u64);
 
 // A version's word; no word, where the version is not small; or why the text is no version.
-#[derive(Drop)]
+#[derive(Clone, Copy)]
 pub enum Worded {
     Word(Word),
     NotSmall,

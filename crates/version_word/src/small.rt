@@ -5,7 +5,7 @@ ghost use Rattle.version_word.specs.Fitted.{FittedTo, numbers_fitted, suffix_fit
 
 use version_parts::fields::{MaybeNumber, Pre, Release};
 
-#[derive(Drop)]
+#[derive(Clone, Copy)]
 pub enum Fitted {
     Fits(u64),
     Large,

@@ -22,4 +22,4 @@ knappulf_read_spec =
     (λ c κs. search rules)
     (λ c κs. search rules)
     (λ c κs. search rules)
-    (λ c. (told_as c.tell2.ensures cc, cc)))
+    (λ c. (told_as c.tell-2.ensures cc, cc)))

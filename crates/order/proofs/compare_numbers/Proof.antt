@@ -10,18 +10,18 @@ use Rattle.order.proofs.Answer.{numbers_differ, numbers_agree, numbers_end}
 use Rattle.order.proofs.compare_numbers.Statement.{statement}
 use Rattle.order.proofs.compare_numbers.Tie as tie
 
-abbrev invariant-loop : tie.invariant-loop
-invariant-loop a b n i₀ i = (i ≤ n) × (padded compare 0 (drop i a) (drop i b) ≡ padded compare 0 a b)
+abbrev invariant-loop-i : tie.invariant-loop-i
+invariant-loop-i a b n i₀ i = (i ≤ n) × (padded compare 0 (drop i a) (drop i b) ≡ padded compare 0 a b)
 
-abbrev decreases-loop : tie.decreases-loop
-decreases-loop a b n i₀ i = n - i
+abbrev decreases-loop-i : tie.decreases-loop-i
+decreases-loop-i a b n i₀ i = n - i
 
 pub compare_numbers_spec : {M : Type 1} → statement M
 compare_numbers_spec =
     tie.close
     (tie.spec
-    invariant-loop
-    decreases-loop
+    invariant-loop-i
+    decreases-loop-i
     (λ c κs. search rules)
     (λ c. search rules)
     (λ c κs. search rules)

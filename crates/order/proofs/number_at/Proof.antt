@@ -6,7 +6,7 @@ use borrow.Author.Rules.{rules}
 use Rattle.order.proofs.number_at.Statement.{statement}
 use Rattle.order.proofs.number_at.Tie as tie
 
-past_end : tie.Need-returns-2
+past_end : tie.Need-returns-else-at-s
 past_end c = sym (get_or-eq_default c.before.args.s.now 0 (omega arith))
 
 pub number_at_spec : {M : Type 1} → statement M

@@ -10,7 +10,7 @@ use Rattle.boundary_fields.proofs.fields.put_fields.Tie as tie
 sixteen : (c : tie.Start) → length c.args.version.release.numbers ≡ 16
 sixteen c = search length_unmapped
 
-room : tie.Need-put-numbers-requires
+room : tie.Need-put_numbers-requires
 room c κs =
     let many = sixteen c.before.before.before.before.before.before.before.before in
     search rules
@@ -20,7 +20,7 @@ full c =
     let numbers = c.before.before in
     let parts = numbers.before.before.before in
     let start = parts.before.before.before.before.before.before in
-    fields_full _ start.args.version start.args.fields.now _ _ _ (sixteen start) parts.put-parts.ensures numbers.put-numbers.ensures c.put-segments.ensures (search rules)
+    fields_full _ start.args.version start.args.fields.now _ _ _ (sixteen start) parts.put_parts.ensures numbers.put_numbers.ensures c.put_segments.ensures (search rules)
 
 pub put_fields_spec : {M : Type 1} → statement M
 put_fields_spec =

@@ -11,22 +11,22 @@ use Rattle.boundary_fields.proofs.Rows.{row_next, rows_done}
 use Rattle.boundary_fields.proofs.fields.put_segments.Statement.{statement}
 use Rattle.boundary_fields.proofs.fields.put_segments.Tie as tie
 
-abbrev invariant-loop : tie.invariant-loop
-invariant-loop fields₀ at text local i₀ fields i =
+abbrev invariant-loop-i : tie.invariant-loop-i
+invariant-loop-i fields₀ at text local i₀ fields i =
     (i ≤ 16)
     × (at + 64 ≤ length fields)
     × (length fields ≡ length fields₀)
     × (sets fields (at + 4 * i) (segment_rows text local i (16 - i)) ≡ sets fields₀ at (segment_rows text local 0 16))
 
-abbrev decreases-loop : tie.decreases-loop
-decreases-loop fields₀ at text local i₀ fields i = 16 - i
+abbrev decreases-loop-i : tie.decreases-loop-i
+decreases-loop-i fields₀ at text local i₀ fields i = 16 - i
 
 pub put_segments_spec : {M : Type 1} → statement M
 put_segments_spec =
     tie.close
     (tie.spec
-    invariant-loop
-    decreases-loop
+    invariant-loop-i
+    decreases-loop-i
     (λ c. (search rules, search rules, search rules, rw add-zero))
     (λ c. search rules)
     (λ c. search rules)

@@ -9,27 +9,27 @@ use Rattle.chars.proofs.Beginnings.{begins_short, begins_not, begins_on, begins_
 use Rattle.chars.proofs.case.beginning.Statement.{statement}
 use Rattle.chars.proofs.case.beginning.Tie as tie
 
-abbrev invariant-loop : tie.invariant-loop
-invariant-loop s word i₀ i =
+abbrev invariant-loop-i : tie.invariant-loop-i
+invariant-loop-i s word i₀ i =
     (i ≤ length s) × (i ≤ length word) × (starts_with (drop i word) (drop i s) ≡ starts_with word s)
 
-abbrev decreases-loop : tie.decreases-loop
-decreases-loop s word i₀ i = length word - i
+abbrev decreases-loop-i : tie.decreases-loop-i
+decreases-loop-i s word i₀ i = length word - i
 
 -- written out: a search would try each test of the loop for each premise
-on : tie.Need-loop-preserved invariant-loop decreases-loop
+on : tie.Need-loop-i-preserved invariant-loop-i decreases-loop-i
 on c =
     let lowered = c.before.before in
     let tested = lowered.before.before in
-    let same = begins_on _ _ _ _ tested.before.before.loop.invariant.2 in
-    (search rules, search rules, same tested.before.loop-test.true tested.if1.false lowered.lower.ensures.is c.if2.false)
+    let same = begins_on _ _ _ _ tested.before.before.loop-i.invariant.2 in
+    (search rules, search rules, same tested.before.loop-i-test.true tested.if-s-i.false lowered.lower.ensures.is c.if-lower-word.false)
 
 pub beginning_spec : {M : Type 1} → statement M
 beginning_spec =
     tie.close
     (tie.spec
-    invariant-loop
-    decreases-loop
+    invariant-loop-i
+    decreases-loop-i
     (λ c. (search rules, search rules, refl))
     (λ c. record { is = search begins_short; within = search rules })
     (λ c. search rules)

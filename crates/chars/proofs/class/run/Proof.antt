@@ -10,18 +10,18 @@ use Rattle.chars.proofs.Classes.{count_below, count_above, count_on, count_past}
 use Rattle.chars.proofs.class.run.Statement.{statement}
 use Rattle.chars.proofs.class.run.Tie as tie
 
-abbrev invariant-loop : tie.invariant-loop
-invariant-loop s low high i₀ i = (i ≤ length s) × (i + front (between low high) (drop i s) ≡ front (between low high) s)
+abbrev invariant-loop-i : tie.invariant-loop-i
+invariant-loop-i s low high i₀ i = (i ≤ length s) × (i + front (between low high) (drop i s) ≡ front (between low high) s)
 
-abbrev decreases-loop : tie.decreases-loop
-decreases-loop s low high i₀ i = length s - i
+abbrev decreases-loop-i : tie.decreases-loop-i
+decreases-loop-i s low high i₀ i = length s - i
 
 pub run_spec : {M : Type 1} → statement M
 run_spec =
     tie.close
     (tie.spec
-    invariant-loop
-    decreases-loop
+    invariant-loop-i
+    decreases-loop-i
     (λ c. (search rules, zero-add _))
     (λ c. search rules)
     (λ c κs. search rules)

@@ -12,5 +12,5 @@ byte_at_spec =
     tie.close
     (tie.spec
     (λ c. search rules)
-    (λ c. record { is = refl; inside = omega (arith, c.shared-slice-known.given c.before.before.args.at) })
-    (λ c. record { is = sym (get_or-eq_default c.before.args.s.now 0 c.if1.false); inside = omega arith }))
+    (λ c. record { is = refl; inside = omega (arith, c.shared_slice_known-1.given c.before.before.args.at) })
+    (λ c. record { is = sym (get_or-eq_default c.before.args.s.now 0 c.if-at-s.false); inside = omega arith }))

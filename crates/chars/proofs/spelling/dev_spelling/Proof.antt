@@ -9,6 +9,5 @@ pub dev_spelling_spec : {M : Type 1} → statement M
 dev_spelling_spec =
     tie.close
     (tie.spec
-    (λ c. search rules)
     (λ c κs. search rules)
     (λ c. record { is = search dev_spelled; within = search rules }))

@@ -9,19 +9,19 @@ use Rattle.chars.proofs.FirstWords.{word_found, words_done, words_on, no_words}
 use Rattle.chars.proofs.spelling.first_word.Statement.{statement}
 use Rattle.chars.proofs.spelling.first_word.Tie as tie
 
-abbrev invariant-loop : tie.invariant-loop
-invariant-loop words rest at₀ which₀ at which =
+abbrev invariant-loop-at : tie.invariant-loop-at
+invariant-loop-at words rest at₀ which₀ at which =
     (at ≤ length words) × (which ≤ at) × (first_in which (words_in (drop at words)) rest ≡ first_in 0 (words_in words) rest)
 
-abbrev decreases-loop : tie.decreases-loop
-decreases-loop words rest at₀ which₀ at which = length words - at
+abbrev decreases-loop-at : tie.decreases-loop-at
+decreases-loop-at words rest at₀ which₀ at which = length words - at
 
 pub first_word_spec : {M : Type 1} → statement M
 first_word_spec =
     tie.close
     (tie.spec
-    invariant-loop
-    decreases-loop
+    invariant-loop-at
+    decreases-loop-at
     (λ c. (search rules, search rules, refl))
     (λ c κs. search rules)
     (λ c. search rules)

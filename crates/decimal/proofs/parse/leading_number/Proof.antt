@@ -22,22 +22,22 @@ use Rattle.decimal.proofs.Values.{
 use Rattle.decimal.proofs.parse.leading_number.Statement.{statement}
 use Rattle.decimal.proofs.parse.leading_number.Tie as tie
 
-abbrev invariant-loop : tie.invariant-loop
-invariant-loop rest value₀ i₀ value i =
+abbrev invariant-loop-i : tie.invariant-loop-i
+invariant-loop-i rest value₀ i₀ value i =
     (i ≤ length rest) ×
     (value < 2 ^ 64) ×
     (i + digits_of (drop i rest) ≡ digits_of rest) ×
     (leading_from value (drop i rest) ≡ leading_from 0 rest)
 
-abbrev decreases-loop : tie.decreases-loop
-decreases-loop rest value₀ i₀ value i = length rest - i
+abbrev decreases-loop-i : tie.decreases-loop-i
+decreases-loop-i rest value₀ i₀ value i = length rest - i
 
 pub leading_number_spec : {M : Type 1} → statement M
 leading_number_spec =
     tie.close
     (tie.spec
-    invariant-loop
-    decreases-loop
+    invariant-loop-i
+    decreases-loop-i
     (λ c κs. search rules)
     (λ c. (search rules, search rules, search lead_count, search lead_start))
     (λ c. search rules)

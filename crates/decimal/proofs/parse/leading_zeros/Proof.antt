@@ -12,18 +12,18 @@ use Rattle.decimal.proofs.Values.{zeros_stop, zeros_on}
 use Rattle.decimal.proofs.parse.leading_zeros.Statement.{statement}
 use Rattle.decimal.proofs.parse.leading_zeros.Tie as tie
 
-abbrev invariant-loop : tie.invariant-loop
-invariant-loop rest i₀ i = (i ≤ length rest) × (i + front is_zero (drop i rest) ≡ front is_zero rest)
+abbrev invariant-loop-i : tie.invariant-loop-i
+invariant-loop-i rest i₀ i = (i ≤ length rest) × (i + front is_zero (drop i rest) ≡ front is_zero rest)
 
-abbrev decreases-loop : tie.decreases-loop
-decreases-loop rest i₀ i = length rest - i
+abbrev decreases-loop-i : tie.decreases-loop-i
+decreases-loop-i rest i₀ i = length rest - i
 
 pub leading_zeros_spec : {M : Type 1} → statement M
 leading_zeros_spec =
     tie.close
     (tie.spec
-    invariant-loop
-    decreases-loop
+    invariant-loop-i
+    decreases-loop-i
     (λ c. (search rules, zero-add _))
     (λ c. search rules)
     (λ c. record { is = search zeros_stop; within = search rules })

@@ -9,18 +9,18 @@ use Rattle.decimal.proofs.Values.{was_over, sum_fits, product_fits, parse_big, p
 use Rattle.decimal.proofs.parse.parse_u64.Statement.{statement}
 use Rattle.decimal.proofs.parse.parse_u64.Tie as tie
 
-abbrev invariant-loop : tie.invariant-loop
-invariant-loop digits value₀ i₀ value i = (value < 2 ^ 64) × (value_from value (drop i digits) ≡ value_from 0 digits)
+abbrev invariant-loop-i : tie.invariant-loop-i
+invariant-loop-i digits value₀ i₀ value i = (value < 2 ^ 64) × (value_from value (drop i digits) ≡ value_from 0 digits)
 
-abbrev decreases-loop : tie.decreases-loop
-decreases-loop digits value₀ i₀ value i = length digits - i
+abbrev decreases-loop-i : tie.decreases-loop-i
+decreases-loop-i digits value₀ i₀ value i = length digits - i
 
 pub parse_u64_spec : {M : Type 1} → statement M
 parse_u64_spec =
     tie.close
     (tie.spec
-    invariant-loop
-    decreases-loop
+    invariant-loop-i
+    decreases-loop-i
     (λ c. (search rules, refl))
     (λ c. search rules)
     (λ c κs. search rules)

@@ -1,13 +1,11 @@
 -- `decimal::put::put_number` meets its contract: the digits of n / 10, then one more. The number itself falls.
 -- Assumes nothing.
-use mathlib.Core.Path.{sym}
 use Prim.Native.Nat.{ℕ, ◌<◌}
 use native.Mathlib.Omega.{arith}
 use borrow.Author.Rules.{rules}
 use borrow.Fn.Kinds.{In}
 use borrow.Fn.PlainCycle.{Measures, is, falls, and}
-use Rattle.decimal.proofs.Figures.{one_digit, more_digits}
-use Rattle.decimal.proofs.Puts.{then, retext, number_put}
+use Rattle.decimal.proofs.Puts.{one_put, more_put}
 use Rattle.decimal.proofs.put.put_number.Reads as put-number
 use Rattle.decimal.proofs.put.put_number.Kinds as put-number-kinds
 use Rattle.decimal.proofs.put.+put_number.Lts-put_number as put-number-lts
@@ -26,8 +24,8 @@ abbrev put_number_below : ℕ → In 1 put-number-kinds.ps
 put_number_below t =
     and 1 put-number-kinds.ps (falls 1 put-number-kinds.ps ◌<◌ μ_put_number t) put-number.Pre
 
-pub +put-number-spec : {M : Type 1} → statement M
-+put-number-spec =
+pub +put_number_spec : {M : Type 1} → statement M
++put_number_spec =
     close μ_put_number λ t.
     put-number-lts.spec (put-byte-reads.Asked, put-byte-reads.Learnt, put_number_below t, put-number.Post) (put_number_at t) put-number.Post
     (λ c. omega arith)
@@ -38,8 +36,6 @@ pub +put-number-spec : {M : Type 1} → statement M
     (λ c. omega arith)
     (λ c κs. search rules)
     (λ c. search rules)
-    (λ c. number_put (retext (sym (one_digit _ (search rules))) c.before.before.put_byte.ensures.wrote) (search rules))
+    (λ c. search one_put)
     (λ c. search rules)
-    (λ c.
-    let whole = then c.before.before.before.before.before.before.put-number.ensures.wrote c.before.before.put-byte2.ensures.wrote in
-    number_put (retext (sym (more_digits _ (search rules))) whole) (search rules))
+    (λ c. search more_put)

@@ -12,18 +12,18 @@ use borrow.Author.Rules.{rules}
 use Rattle.list_accepting.proofs.accept.accept_clauses.Statement.{statement}
 use Rattle.list_accepting.proofs.accept.accept_clauses.Tie as tie
 
-abbrev invariant-loop : tie.invariant-loop
-invariant-loop list version count₀ start₀ so-far₀ count start so_far = (count ≤ 16) × Walked list count start × (so_far ≡ all_accept (first_clauses list count) (value_of [] version))
+abbrev invariant-loop-count : tie.invariant-loop-count
+invariant-loop-count list version count₀ start₀ so-far₀ count start so_far = (count ≤ 16) × Walked list count start × (so_far ≡ all_accept (first_clauses list count) (value_of [] version))
 
-abbrev decreases-loop : tie.decreases-loop
-decreases-loop list version count₀ start₀ so-far₀ count start so_far = 16 - count
+abbrev decreases-loop-count : tie.decreases-loop-count
+decreases-loop-count list version count₀ start₀ so-far₀ count start so_far = 16 - count
 
 pub accept_clauses_spec : {M : Type 1} → statement M
 accept_clauses_spec =
     tie.close
     (tie.spec
-    invariant-loop
-    decreases-loop
+    invariant-loop-count
+    decreases-loop-count
     (λ c. (search rules, search walk_none, search accept_none))
     (λ c. search accept_full)
     (λ c κs. search rules)

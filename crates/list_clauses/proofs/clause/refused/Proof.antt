@@ -10,4 +10,4 @@ refused_spec =
     (tie.spec
     (λ c κs. search rules)
     (λ c κs. search rules)
-    (λ c. record { is = rw (c.none2.ensures.is, c.before.none.ensures.is); few = search rules }))
+    (λ c. record { is = rw (c.none-local.ensures.is, c.before.none-release.ensures.is); few = search rules }))

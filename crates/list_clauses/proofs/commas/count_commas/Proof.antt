@@ -11,18 +11,18 @@ use borrow.Author.Rules.{rules}
 use Rattle.list_clauses.proofs.commas.count_commas.Statement.{statement}
 use Rattle.list_clauses.proofs.commas.count_commas.Tie as tie
 
-abbrev invariant-loop : tie.invariant-loop
-invariant-loop list count₀ i₀ count i = (count ≤ i) × (i ≤ length list) × (count + commas_in (drop i list) ≡ commas_in list)
+abbrev invariant-loop-i : tie.invariant-loop-i
+invariant-loop-i list count₀ i₀ count i = (count ≤ i) × (i ≤ length list) × (count + commas_in (drop i list) ≡ commas_in list)
 
-abbrev decreases-loop : tie.decreases-loop
-decreases-loop list count₀ i₀ count i = length list - i
+abbrev decreases-loop-i : tie.decreases-loop-i
+decreases-loop-i list count₀ i₀ count i = length list - i
 
 pub count_commas_spec : {M : Type 1} → statement M
 count_commas_spec =
     tie.close
     (tie.spec
-    invariant-loop
-    decreases-loop
+    invariant-loop-i
+    decreases-loop-i
     (λ c. (search rules, search rules, zero-add _))
     (λ c. search rules)
     (λ c κs. search rules)

@@ -7,18 +7,18 @@ use borrow.Author.Rules.{rules}
 use Rattle.list_clauses.proofs.list.check_clauses.Statement.{statement}
 use Rattle.list_clauses.proofs.list.check_clauses.Tie as tie
 
-abbrev invariant-loop : tie.invariant-loop
-invariant-loop list count₀ start₀ count start = (count ≤ 16) × Walked list count start
+abbrev invariant-loop-count : tie.invariant-loop-count
+invariant-loop-count list count₀ start₀ count start = (count ≤ 16) × Walked list count start
 
-abbrev decreases-loop : tie.decreases-loop
-decreases-loop list count₀ start₀ count start = 16 - count
+abbrev decreases-loop-count : tie.decreases-loop-count
+decreases-loop-count list count₀ start₀ count start = 16 - count
 
 pub check_clauses_spec : {M : Type 1} → statement M
 check_clauses_spec =
     tie.close
     (tie.spec
-    invariant-loop
-    decreases-loop
+    invariant-loop-count
+    decreases-loop-count
     (λ c. (search rules, search walk_none))
     (λ c. search check_full)
     (λ c κs. search rules)

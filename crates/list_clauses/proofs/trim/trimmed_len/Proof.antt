@@ -11,18 +11,18 @@ use borrow.Author.Rules.{rules}
 use Rattle.list_clauses.proofs.trim.trimmed_len.Statement.{statement}
 use Rattle.list_clauses.proofs.trim.trimmed_len.Tie as tie
 
-abbrev invariant-loop : tie.invariant-loop
-invariant-loop s n₀ n = (n ≤ length s) × (trimmed_length (take n s) ≡ trimmed_length s)
+abbrev invariant-loop-n : tie.invariant-loop-n
+invariant-loop-n s n₀ n = (n ≤ length s) × (trimmed_length (take n s) ≡ trimmed_length s)
 
-abbrev decreases-loop : tie.decreases-loop
-decreases-loop s n₀ n = n
+abbrev decreases-loop-n : tie.decreases-loop-n
+decreases-loop-n s n₀ n = n
 
 pub trimmed_len_spec : {M : Type 1} → statement M
 trimmed_len_spec =
     tie.close
     (tie.spec
-    invariant-loop
-    decreases-loop
+    invariant-loop-n
+    decreases-loop-n
     (λ c. (search rules, rw (take_all _ _ (le_refl _))))
     (λ c. search rules)
     (λ c. search rules)

@@ -1,6 +1,6 @@
 -- `list_ends::clause_ends::first_end` meets its contract: one case for each operator.
 -- Assumes nothing.
-use Rattle.list_ends.proofs.Given.{first_by, made-bottom}
+use Rattle.list_ends.proofs.Given.{first_by, made_bottom}
 use borrow.Author.Rules.{rules}
 use Rattle.list_ends.proofs.clause_ends.first_end.Statement.{statement}
 use Rattle.list_ends.proofs.clause_ends.first_end.Tie as tie
@@ -26,7 +26,7 @@ first_end_spec =
     (λ c. search first_by)
     (λ c. search first_by)
     (λ c. search first_by)
-    (λ c. search (first_by, made-bottom))
+    (λ c. search (first_by, made_bottom))
     (λ c. search first_by)
-    (λ c. search (first_by, made-bottom))
+    (λ c. search (first_by, made_bottom))
     (λ c. search first_by))

@@ -1,6 +1,6 @@
 -- `list_ends::clause_ends::last_compatible` meets its contract.
 -- Assumes nothing.
-use Rattle.list_ends.proofs.Given.{ends-compatible}
+use Rattle.list_ends.proofs.Given.{ends_compatible}
 use borrow.Author.Rules.{rules}
 use Rattle.list_ends.proofs.clause_ends.last_compatible.Statement.{statement}
 use Rattle.list_ends.proofs.clause_ends.last_compatible.Tie as tie
@@ -12,4 +12,4 @@ last_compatible_spec =
     (λ c κs. search rules)
     (λ c κs. search rules)
     (λ c κs. search rules)
-    (λ c. search ends-compatible))
+    (λ c. search ends_compatible))

@@ -1,6 +1,6 @@
 -- `list_ends::clause_ends::last_equal` meets its contract: one law for each way out.
 -- Assumes nothing.
-use Rattle.list_ends.proofs.Given.{ends-match, ends_at}
+use Rattle.list_ends.proofs.Given.{ends_match, ends_at}
 use borrow.Author.Rules.{rules}
 use Rattle.list_ends.proofs.clause_ends.last_equal.Statement.{statement}
 use Rattle.list_ends.proofs.clause_ends.last_equal.Tie as tie
@@ -10,6 +10,6 @@ last_equal_spec =
     tie.close
     (tie.spec
     (λ c κs. search rules)
-    (λ c. search ends-match)
+    (λ c. search ends_match)
     (λ c κs. search rules)
     (λ c. search ends_at))

@@ -1,6 +1,6 @@
 -- `list_ends::clause_ends::match_last` meets its contract: one law for each way out.
 -- Assumes nothing.
-use Rattle.list_ends.proofs.Given.{has-next, has-no-next}
+use Rattle.list_ends.proofs.Given.{has_next, has_no_next}
 use borrow.Author.Rules.{rules}
 use Rattle.list_ends.proofs.clause_ends.match_last.Statement.{statement}
 use Rattle.list_ends.proofs.clause_ends.match_last.Tie as tie
@@ -11,6 +11,6 @@ match_last_spec =
     (tie.spec
     (λ c κs. search rules)
     (λ c κs. search rules)
-    (λ c. search has-next)
+    (λ c. search has_next)
     (λ c κs. search rules)
-    (λ c. search has-no-next))
+    (λ c. search has_no_next))

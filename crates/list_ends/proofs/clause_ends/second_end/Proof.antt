@@ -1,6 +1,6 @@
 -- `list_ends::clause_ends::second_end` meets its contract: one case for each operator.
 -- Assumes nothing.
-use Rattle.list_ends.proofs.Given.{second-by, made-topmost}
+use Rattle.list_ends.proofs.Given.{second_by, made_topmost}
 use borrow.Author.Rules.{rules}
 use Rattle.list_ends.proofs.clause_ends.second_end.Statement.{statement}
 use Rattle.list_ends.proofs.clause_ends.second_end.Tie as tie
@@ -23,10 +23,10 @@ second_end_spec =
     (λ c κs. search rules)
     (λ c. search rules)
     (λ c κs. search rules)
-    (λ c. search second-by)
-    (λ c. search second-by)
-    (λ c. search second-by)
-    (λ c. search second-by)
-    (λ c. search (second-by, made-topmost))
-    (λ c. search second-by)
-    (λ c. search (second-by, made-topmost)))
+    (λ c. search second_by)
+    (λ c. search second_by)
+    (λ c. search second_by)
+    (λ c. search second_by)
+    (λ c. search (second_by, made_topmost))
+    (λ c. search second_by)
+    (λ c. search (second_by, made_topmost)))

@@ -8,23 +8,23 @@ use borrow.Author.Rules.{rules}
 use Rattle.list_fold.proofs.clip.clip.Statement.{statement}
 use Rattle.list_fold.proofs.clip.clip.Tie as tie
 
-abbrev invariant-loop : tie.invariant-loop
-invariant-loop rows low high lows highs count parts₀ i₀ parts i = (i ≤ count) × (length lows ≡ 34) × (length highs ≡ 34) × Clipped rows low high lows highs parts₀ i parts
+abbrev invariant-loop-i : tie.invariant-loop-i
+invariant-loop-i rows low high lows highs count parts₀ i₀ parts i = (i ≤ count) × (length lows ≡ 34) × (length highs ≡ 34) × Clipped rows low high lows highs parts₀ i parts
 
-abbrev decreases-loop : tie.decreases-loop
-decreases-loop rows low high lows highs count parts₀ i₀ parts i = count - i
+abbrev decreases-loop-i : tie.decreases-loop-i
+decreases-loop-i rows low high lows highs count parts₀ i₀ parts i = count - i
 
 pub clip_spec : {M : Type 1} → statement M
 clip_spec =
     tie.close
     (tie.spec
-    invariant-loop
-    decreases-loop
+    invariant-loop-i
+    decreases-loop-i
     (λ c. (search rules, search rules, search rules, search clip_start))
     (λ c. search rules)
     (λ c. search rules)
     (λ c κs. (search rules, search clip_room))
     (λ c. search rules)
     (λ c. search rules)
-    (λ c. (search rules, search rules, search rules, search (clip_turn, c.keep-part.ensures)))
+    (λ c. (search rules, search rules, search rules, search (clip_turn, c.keep_part-parts.ensures)))
     (λ c. search clip_end))

@@ -7,19 +7,19 @@ use borrow.Author.Rules.{rules}
 use Rattle.list_fold.proofs.end_number.clause_end.Statement.{statement}
 use Rattle.list_fold.proofs.end_number.clause_end.Tie as tie
 
-abbrev invariant-loop : tie.invariant-loop
-invariant-loop list number start₀ left₀ start left =
+abbrev invariant-loop-left : tie.invariant-loop-left
+invariant-loop-left list number start₀ left₀ start left =
     place_from list start left ≡ place_from list 0 number
 
-abbrev decreases-loop : tie.decreases-loop
-decreases-loop list number start₀ left₀ start left = left
+abbrev decreases-loop-left : tie.decreases-loop-left
+decreases-loop-left list number start₀ left₀ start left = left
 
 pub clause_end_spec : {M : Type 1} → statement M
 clause_end_spec =
     tie.close
     (tie.spec
-    invariant-loop
-    decreases-loop
+    invariant-loop-left
+    decreases-loop-left
     (λ c. refl)
     (λ c κs. search rules)
     (λ c. search rules)

@@ -11,8 +11,8 @@ use borrow.Author.Rules.{rules}
 use Rattle.list_fold.proofs.fold.fold_clauses.Statement.{statement}
 use Rattle.list_fold.proofs.fold.fold_clauses.Tie as tie
 
-abbrev invariant-loop : tie.invariant-loop
-invariant-loop list rows₀ ranges₀ start₀ count₀ rows ranges start count =
+abbrev invariant-loop-count : tie.invariant-loop-count
+invariant-loop-count list rows₀ ranges₀ start₀ count₀ rows ranges start count =
     (count ≤ 16)
     × (length rows ≡ length rows₀)
     × (48 * min (commas_in list) 15 + 96 ≤ length rows)
@@ -20,15 +20,15 @@ invariant-loop list rows₀ ranges₀ start₀ count₀ rows ranges start count 
     × Walked list count start
     × Folding list count rows ranges
 
-abbrev decreases-loop : tie.decreases-loop
-decreases-loop list rows₀ ranges₀ start₀ count₀ rows ranges start count = 16 - count
+abbrev decreases-loop-count : tie.decreases-loop-count
+decreases-loop-count list rows₀ ranges₀ start₀ count₀ rows ranges start count = 16 - count
 
 pub fold_clauses_spec : {M : Type 1} → statement M
 fold_clauses_spec =
     tie.close
     (tie.spec
-    invariant-loop
-    decreases-loop
+    invariant-loop-count
+    decreases-loop-count
     (λ c κs. search rules)
     (λ c κs. search rules)
     (λ c κs. search rules)

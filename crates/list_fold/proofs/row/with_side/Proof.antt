@@ -9,18 +9,18 @@ use Rattle.list_fold.proofs.Filled.{side_turn, side_end}
 use Rattle.list_fold.proofs.row.with_side.Statement.{statement}
 use Rattle.list_fold.proofs.row.with_side.Tie as tie
 
-abbrev invariant-loop : tie.invariant-loop
-invariant-loop side numbers row₀ i₀ row i = (i ≤ 22) × (length row ≡ 24) × (row ≡ paste row₀ 1 numbers i)
+abbrev invariant-loop-i : tie.invariant-loop-i
+invariant-loop-i side numbers row₀ i₀ row i = (i ≤ 22) × (length row ≡ 24) × (row ≡ paste row₀ 1 numbers i)
 
-abbrev decreases-loop : tie.decreases-loop
-decreases-loop side numbers row₀ i₀ row i = 22 - i
+abbrev decreases-loop-i : tie.decreases-loop-i
+decreases-loop-i side numbers row₀ i₀ row i = 22 - i
 
 pub with_side_spec : {M : Type 1} → statement M
 with_side_spec =
     tie.close
     (tie.spec
-    invariant-loop
-    decreases-loop
+    invariant-loop-i
+    decreases-loop-i
     (λ c. search rules)
     (λ c. search rules)
     (λ c. (search rules, search rules, refl))

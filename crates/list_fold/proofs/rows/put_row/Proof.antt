@@ -9,18 +9,18 @@ use Rattle.list_fold.proofs.Filled.{row_turn, row_end}
 use Rattle.list_fold.proofs.rows.put_row.Statement.{statement}
 use Rattle.list_fold.proofs.rows.put_row.Tie as tie
 
-abbrev invariant-loop : tie.invariant-loop
-invariant-loop rows₀ number row start i₀ rows i = (i ≤ 24) × (length rows ≡ length rows₀) × (rows ≡ paste rows₀ start row i)
+abbrev invariant-loop-i : tie.invariant-loop-i
+invariant-loop-i rows₀ number row start i₀ rows i = (i ≤ 24) × (length rows ≡ length rows₀) × (rows ≡ paste rows₀ start row i)
 
-abbrev decreases-loop : tie.decreases-loop
-decreases-loop rows₀ number row start i₀ rows i = 24 - i
+abbrev decreases-loop-i : tie.decreases-loop-i
+decreases-loop-i rows₀ number row start i₀ rows i = 24 - i
 
 pub put_row_spec : {M : Type 1} → statement M
 put_row_spec =
     tie.close
     (tie.spec
-    invariant-loop
-    decreases-loop
+    invariant-loop-i
+    decreases-loop-i
     (λ c. search rules)
     (λ c. (search rules, search rules, search paste-zero))
     (λ c. search rules)

@@ -9,18 +9,18 @@ use Rattle.register_entries.proofs.Numbered.{numbers_turn, numbers_end}
 use Rattle.register_entries.proofs.gathered.gathered_numbers.Statement.{statement}
 use Rattle.register_entries.proofs.gathered.gathered_numbers.Tie as tie
 
-abbrev invariant-loop : tie.invariant-loop
-invariant-loop ids starts lengths n held₀ i₀ held i = (n ≡ min (length ids) 65) × (i ≤ n) × (held ≡ held_of (take i (entries_of ids starts lengths)))
+abbrev invariant-loop-i : tie.invariant-loop-i
+invariant-loop-i ids starts lengths n held₀ i₀ held i = (n ≡ min (length ids) 65) × (i ≤ n) × (held ≡ held_of (take i (entries_of ids starts lengths)))
 
-abbrev decreases-loop : tie.decreases-loop
-decreases-loop ids starts lengths n held₀ i₀ held i = n - i
+abbrev decreases-loop-i : tie.decreases-loop-i
+decreases-loop-i ids starts lengths n held₀ i₀ held i = n - i
 
 pub gathered_numbers_spec : {M : Type 1} → statement M
 gathered_numbers_spec =
     tie.close
     (tie.spec
-    invariant-loop
-    decreases-loop
+    invariant-loop-i
+    decreases-loop-i
     (λ c κs. search rules)
     (λ c κs. search rules)
     (λ c. (search rules, search rules, search rules))

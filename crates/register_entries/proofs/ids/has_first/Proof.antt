@@ -9,23 +9,23 @@ use Rattle.register_entries.proofs.Identified.{has_here, has_later, has_not}
 use Rattle.register_entries.proofs.ids.has_first.Statement.{statement}
 use Rattle.register_entries.proofs.ids.has_first.Tie as tie
 
-abbrev invariant-loop : tie.invariant-loop
-invariant-loop count id list i₀ i = (i ≤ count) × (count ≤ 65) × (length list ≡ 65) × (has id (drop i (take count list)) ≡ has id (take count list))
+abbrev invariant-loop-i : tie.invariant-loop-i
+invariant-loop-i count id list i₀ i = (i ≤ count) × (count ≤ 65) × (length list ≡ 65) × (has id (drop i (take count list)) ≡ has id (take count list))
 
-abbrev decreases-loop : tie.decreases-loop
-decreases-loop count id list i₀ i = count - i
+abbrev decreases-loop-i : tie.decreases-loop-i
+decreases-loop-i count id list i₀ i = count - i
 
-again : tie.Need-loop-preserved invariant-loop decreases-loop
+again : tie.Need-loop-i-preserved invariant-loop-i decreases-loop-i
 again c =
     let turn = c.before.before.before in
-    (search rules, search rules, search rules, has_later _ _ (search rules) _ (search rules) _ turn.before.loop.invariant.3 _ turn.loop-test.true c.if1.false)
+    (search rules, search rules, search rules, has_later _ _ (search rules) _ (search rules) _ turn.before.loop-i.invariant.3 _ turn.loop-i-test.true c.if-entry-id.false)
 
 pub has_first_spec : {M : Type 1} → statement M
 has_first_spec =
     tie.close
     (tie.spec
-    invariant-loop
-    decreases-loop
+    invariant-loop-i
+    decreases-loop-i
     (λ c. (search rules, search rules, search rules, refl))
     (λ c. search rules)
     (λ c. search rules)

@@ -9,22 +9,22 @@ use Rattle.register_fit.proofs.Guilty.{first_never, guilty_start, guilty_here, g
 use Rattle.register_fit.proofs.guilt.first_guilty.Statement.{statement}
 use Rattle.register_fit.proofs.guilt.first_guilty.Tie as tie
 
-abbrev invariant-loop : tie.invariant-loop
-invariant-loop rule buffer count list i₀ i =
+abbrev invariant-loop-i : tie.invariant-loop-i
+invariant-loop-i rule buffer count list i₀ i =
     (i ≤ count)
     × (count ≤ 64)
     × (length list ≡ 65)
     × (first_from (guilt_by rule buffer (take count list)) (count - i) i ≡ first_of (guilt_by rule buffer (take count list)) (take count list))
 
-abbrev decreases-loop : tie.decreases-loop
-decreases-loop rule buffer count list i₀ i = count - i
+abbrev decreases-loop-i : tie.decreases-loop-i
+decreases-loop-i rule buffer count list i₀ i = count - i
 
 pub first_guilty_spec : {M : Type 1} → statement M
 first_guilty_spec =
     tie.close
     (tie.spec
-    invariant-loop
-    decreases-loop
+    invariant-loop-i
+    decreases-loop-i
     (λ c. (search rules, search rules, search rules, search guilty_start))
     (λ c. search rules)
     (λ c. search rules)

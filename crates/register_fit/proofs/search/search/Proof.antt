@@ -8,19 +8,19 @@ use Rattle.register_fit.proofs.Searching.{Left, search_start, search_ends, searc
 use Rattle.register_fit.proofs.search.search.Statement.{statement}
 use Rattle.register_fit.proofs.search.search.Tie as tie
 
-abbrev invariant-loop : tie.invariant-loop
-invariant-loop buffer verdict row count list lowest₀ i₀ lowest i =
+abbrev invariant-loop-i : tie.invariant-loop-i
+invariant-loop-i buffer verdict row count list lowest₀ i₀ lowest i =
     (i ≤ count) × (count ≤ 64) × (length list ≡ 65) × Left buffer verdict row list count i lowest
 
-abbrev decreases-loop : tie.decreases-loop
-decreases-loop buffer verdict row count list lowest₀ i₀ lowest i = count - i
+abbrev decreases-loop-i : tie.decreases-loop-i
+decreases-loop-i buffer verdict row count list lowest₀ i₀ lowest i = count - i
 
 pub search_spec : {M : Type 1} → statement M
 search_spec =
     tie.close
     (tie.spec
-    invariant-loop
-    decreases-loop
+    invariant-loop-i
+    decreases-loop-i
     (λ c. (search rules, search rules, search rules, search search_start))
     (λ c. search rules)
     (λ c. search rules)

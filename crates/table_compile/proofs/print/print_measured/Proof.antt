@@ -12,7 +12,7 @@ print_measured_spec =
     (tie.spec
     (λ c. search rules)
     (λ c κs. search rules)
-    (λ c. short _ _ _ _ _ c.before.before.put-table.ensures (omega arith) _ c.if1.true)
+    (λ c. short _ _ _ _ _ c.before.before.put_table-need.ensures (omega arith) _ c.if-buf-need.true)
     (λ c κs. search rules)
     (λ c. search rules)
-    (λ c. printed _ _ _ _ _ c.before.before.before.before.before.before.put-table.ensures (omega arith) _ _ _ c.before.before.put-table2.ensures (search rules)))
+    (λ c. printed _ _ _ _ _ c.before.before.before.before.before.before.put_table-need.ensures (omega arith) _ _ _ c.before.before.put_table-end.ensures (search rules)))

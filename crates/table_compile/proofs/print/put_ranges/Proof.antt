@@ -12,22 +12,22 @@ use borrow.Author.Rules.{rules}
 use Rattle.table_compile.proofs.print.put_ranges.Statement.{statement}
 use Rattle.table_compile.proofs.print.put_ranges.Tie as tie
 
-abbrev invariant-loop : tie.invariant-loop
-invariant-loop buf₀ at list lows highs count next₀ i₀ buf next i =
+abbrev invariant-loop-i : tie.invariant-loop-i
+invariant-loop-i buf₀ at list lows highs count next₀ i₀ buf next i =
     (i ≤ count)
     × (next ≤ at + 2098658 * i)
     × (length buf ≡ length buf₀)
     × Wrote buf₀ at (ranges_text (said_by list lows highs i)) buf next
 
-abbrev decreases-loop : tie.decreases-loop
-decreases-loop buf₀ at list lows highs count next₀ i₀ buf next i = count - i
+abbrev decreases-loop-i : tie.decreases-loop-i
+decreases-loop-i buf₀ at list lows highs count next₀ i₀ buf next i = count - i
 
 pub put_ranges_spec : {M : Type 1} → statement M
 put_ranges_spec =
     tie.close
     (tie.spec
-    invariant-loop
-    decreases-loop
+    invariant-loop-i
+    decreases-loop-i
     (λ c. (search rules, search rules, refl, search ranges_start))
     (λ c. search rules)
     (λ c. search rules)

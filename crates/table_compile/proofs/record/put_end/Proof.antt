@@ -6,12 +6,12 @@ use borrow.Author.Rules.{rules}
 use Rattle.table_compile.proofs.record.put_end.Statement.{statement}
 use Rattle.table_compile.proofs.record.put_end.Tie as tie
 
-written : tie.Need-returns-2
+written : tie.Need-returns
 written c =
     let head = c.before.before in
     let body = head.before.before.before.before in
     record {
-      wrote = front_put 1049325 _ _ _ _ _ _ _ _ (omega arith) body.put-body.ensures head.put-head.ensures;
+      wrote = front_put 1049325 _ _ _ _ _ _ _ _ (omega arith) body.put_body-next.ensures head.put_head.ensures;
       near = search rules;
     }
 

@@ -8,19 +8,19 @@ use borrow.Author.Rules.{rules}
 use Rattle.table_lookup.proofs.search.search_ranges.Statement.{statement}
 use Rattle.table_lookup.proofs.search.search_ranges.Tie as tie
 
-abbrev invariant-loop : tie.invariant-loop
-invariant-loop table count start candidate low₀ high₀ held₀ last₀ left₀ low high held last left =
+abbrev invariant-loop-left : tie.invariant-loop-left
+invariant-loop-left table count start candidate low₀ high₀ held₀ last₀ left₀ low high held last left =
     SoFar table candidate held last high left (searched_for candidate (ranges_from count none table start))
 
-abbrev decreases-loop : tie.decreases-loop
-decreases-loop table count start candidate low₀ high₀ held₀ last₀ left₀ low high held last left = left
+abbrev decreases-loop-left : tie.decreases-loop-left
+decreases-loop-left table count start candidate low₀ high₀ held₀ last₀ left₀ low high held last left = left
 
 pub search_ranges_spec : {M : Type 1} → statement M
 search_ranges_spec =
     tie.close
     (tie.spec
-    invariant-loop
-    decreases-loop
+    invariant-loop-left
+    decreases-loop-left
     (λ c κs. search rules)
     (λ c. search nothing_yet)
     (λ c κs. search rules)

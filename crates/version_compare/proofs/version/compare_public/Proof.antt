@@ -7,7 +7,7 @@ use Rattle.version_compare.proofs.Versions.{keys_compared}
 use Rattle.version_compare.proofs.version.compare_public.Statement.{statement}
 use Rattle.version_compare.proofs.version.compare_public.Tie as tie
 
-releases : tie.Need-returns
+releases : tie.Need-returns-in_default
 unfolding compare_public
 releases c = search decided
 

@@ -9,36 +9,36 @@ use Rattle.version_normal.proofs.Joins.{Joining, join_size_behind, label_none, l
 use Rattle.version_normal.proofs.label.put_label.Statement.{statement}
 use Rattle.version_normal.proofs.label.put_label.Tie as tie
 
-abbrev invariant-loop : tie.invariant-loop
-invariant-loop buf₀ at s local count first next₀ i₀ buf next i =
+abbrev invariant-loop-i : tie.invariant-loop-i
+invariant-loop-i buf₀ at s local count first next₀ i₀ buf next i =
     (i ≤ count)
     × (count ≤ 16)
     × (next + 65556 ≤ next₀ + 65556 * i)
     × Joining (λ k. segment_text (segment_bytes s local k)) count buf₀ next₀ i buf next
 
-abbrev decreases-loop : tie.decreases-loop
-decreases-loop buf₀ at s local count first next₀ i₀ buf next i = count - i
+abbrev decreases-loop-i : tie.decreases-loop-i
+decreases-loop-i buf₀ at s local count first next₀ i₀ buf next i = count - i
 
-start : tie.Need-loop-init invariant-loop decreases-loop
+start : tie.Need-loop-i-init invariant-loop-i decreases-loop-i
 start c =
     let bytes = c.before.before.before in
     let some = bytes.before.before.before.before.before.before in
-    (search rules, search rules, search rules, label_start _ _ _ _ _ _ _ _ bytes.segment-bytes.ensures.is c.before.before.put-segment.ensures.wrote some.if1.false)
+    (search rules, search rules, search rules, label_start _ _ _ _ _ _ _ _ bytes.segment_bytes.ensures.is c.before.before.put_segment-next.ensures.wrote some.if-count-eq0.false)
 
-again : tie.Need-loop-preserved invariant-loop decreases-loop
+again : tie.Need-loop-i-preserved invariant-loop-i decreases-loop-i
 again c =
     let bytes = c.before.before.before in
     let dot = bytes.before.before.before.before in
     let turn = dot.before.before in
-    let next = label_next _ _ _ _ _ _ _ _ _ _ _ _ _ turn.before.loop.invariant.3 turn.loop-test.true dot.put-byte2.ensures.wrote in
-    (search rules, search rules, search rules, next bytes.segment-bytes2.ensures.is c.before.before.put-segment2.ensures.wrote)
+    let next = label_next _ _ _ _ _ _ _ _ _ _ _ _ _ turn.before.loop-i.invariant.3 turn.loop-i-test.true dot.put_byte-dot.ensures.wrote in
+    (search rules, search rules, search rules, next bytes.segment_bytes-in-loop-i.ensures.is c.before.before.put_segment-next-in-loop-i.ensures.wrote)
 
 pub put_label_spec : {M : Type 1} → statement M
 put_label_spec =
     tie.close
     (tie.spec
-    invariant-loop
-    decreases-loop
+    invariant-loop-i
+    decreases-loop-i
     (λ c κs. search rules)
     (λ c. record { wrote = search label_none; near = search rules })
     (λ c κs. search rules)

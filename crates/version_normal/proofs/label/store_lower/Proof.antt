@@ -10,19 +10,19 @@ use Rattle.version_normal.proofs.Texts.{lower_next, lower_done}
 use Rattle.version_normal.proofs.label.store_lower.Statement.{statement}
 use Rattle.version_normal.proofs.label.store_lower.Tie as tie
 
-abbrev invariant-loop : tie.invariant-loop
-invariant-loop buf₀ at s next₀ i₀ buf next i = (i ≤ length s) × (next ≤ at + i) × Wrote buf₀ at (lowered (take i s)) buf next
+abbrev invariant-loop-i : tie.invariant-loop-i
+invariant-loop-i buf₀ at s next₀ i₀ buf next i = (i ≤ length s) × (next ≤ at + i) × Wrote buf₀ at (lowered (take i s)) buf next
 
-abbrev decreases-loop : tie.decreases-loop
-decreases-loop buf₀ at s next₀ i₀ buf next i = length s - i
+abbrev decreases-loop-i : tie.decreases-loop-i
+decreases-loop-i buf₀ at s next₀ i₀ buf next i = length s - i
 
 pub store_lower_spec : {M : Type 1} → statement M
 unfolding lowered
 store_lower_spec =
     tie.close
     (tie.spec
-    invariant-loop
-    decreases-loop
+    invariant-loop-i
+    decreases-loop-i
     (λ c. (search rules, search rules, search nothing))
     (λ c. search rules)
     (λ c κs. search rules)
@@ -30,5 +30,5 @@ store_lower_spec =
     (λ c. search rules)
     (λ c. search rules)
     (λ c. (search rules, search rules, search lower_next))
-    (λ c. same_size c.before.loop.invariant.2)
+    (λ c. same_size c.before.loop-i.invariant.2)
     (λ c. record { wrote = search lower_done; near = search rules }))

@@ -10,23 +10,23 @@ use Rattle.version_normal.proofs.Joins.{Joining, join_start, join_next, join_siz
 use Rattle.version_normal.proofs.numbers.put_release.Statement.{statement}
 use Rattle.version_normal.proofs.numbers.put_release.Tie as tie
 
-abbrev invariant-loop : tie.invariant-loop
-invariant-loop buf₀ at numbers count next₀ i₀ buf next i =
+abbrev invariant-loop-i : tie.invariant-loop-i
+invariant-loop-i buf₀ at numbers count next₀ i₀ buf next i =
     (i ≤ count)
     × (count ≤ 16)
     × (length numbers ≡ 16)
     × (next + 21 ≤ next₀ + 21 * i)
     × Joining (λ k. decimal (get_or numbers k 0)) count buf₀ next₀ i buf next
 
-abbrev decreases-loop : tie.decreases-loop
-decreases-loop buf₀ at numbers count next₀ i₀ buf next i = count - i
+abbrev decreases-loop-i : tie.decreases-loop-i
+decreases-loop-i buf₀ at numbers count next₀ i₀ buf next i = count - i
 
 pub put_release_spec : {M : Type 1} → statement M
 put_release_spec =
     tie.close
     (tie.spec
-    invariant-loop
-    decreases-loop
+    invariant-loop-i
+    decreases-loop-i
     (λ c κs. search rules)
     (λ c. record { wrote = search release_none; near = search rules })
     (λ c. search rules)

@@ -12,7 +12,7 @@ print_version_spec =
     (tie.spec
     (λ c. search rules)
     (λ c κs. search rules)
-    (λ c. short _ _ _ _ _ c.before.before.put-version.ensures (omega arith) _ c.if1.true)
+    (λ c. short _ _ _ _ _ c.before.before.put_version-need.ensures (omega arith) _ c.if-buf-need.true)
     (λ c κs. search rules)
     (λ c. search rules)
-    (λ c. printed _ _ _ _ _ c.before.before.before.before.before.before.put-version.ensures (omega arith) _ _ _ c.before.before.put-version2.ensures (search rules)))
+    (λ c. printed _ _ _ _ _ c.before.before.before.before.before.before.put_version-need.ensures (omega arith) _ _ _ c.before.before.put_version.ensures (search rules)))

@@ -11,9 +11,7 @@ unfolding back_text
 put_back_spec =
     tie.close
     (tie.spec
-    (λ c. search rules)
     (λ c κs. search rules)
-    (λ c. search rules)
     (λ c κs. search rules)
     (λ c κs. search rules)
     (λ c. search rules)

@@ -11,23 +11,23 @@ use Rattle.version_parts.proofs.Heads.{release_done, release_big, release_full, 
 use Rattle.version_parts.proofs.head.read_release.Statement.{statement}
 use Rattle.version_parts.proofs.head.read_release.Tie as tie
 
-abbrev invariant-loop : tie.invariant-loop
-invariant-loop s epoch first from release₀ at₀ release at =
+abbrev invariant-loop-n : tie.invariant-loop-n
+invariant-loop-n s epoch first from release₀ at₀ release at =
     (release.len ≤ 16)
     × (at ≤ length s)
     × (release_from (16 - release.len) s epoch release at ≡ release_from 15 s epoch (only_number first) from)
 
-abbrev decreases-loop : tie.decreases-loop
-decreases-loop s epoch first from release₀ at₀ release at = 16 - release.len
+abbrev decreases-loop-n : tie.decreases-loop-n
+decreases-loop-n s epoch first from release₀ at₀ release at = 16 - release.len
 
 pub read_release_spec : {M : Type 1} → statement M
 read_release_spec =
     tie.close
     (tie.spec
-    invariant-loop
-    decreases-loop
+    invariant-loop-n
+    decreases-loop-n
     (λ c κs. search rules)
-    (λ c. rw c.only.ensures.is (search rules, search rules, refl))
+    (λ c. rw c.only-release.ensures.is (search rules, search rules, refl))
     (λ c κs. search rules)
     (λ c. search rules)
     (λ c. record { is = search release_done; within = search rules; near = search rules; few = search rules })

@@ -8,19 +8,19 @@ use Rattle.version_prefix.proofs.Nexts.{match_none, match_raised, match_dropped}
 use Rattle.version_prefix.proofs.next.match_end.Statement.{statement}
 use Rattle.version_prefix.proofs.next.match_end.Tie as tie
 
-abbrev invariant-loop : tie.invariant-loop
-invariant-loop v count release numbers left₀ left =
+abbrev invariant-loop-left : tie.invariant-loop-left
+invariant-loop-left v count release numbers left₀ left =
     (left ≤ 16) × (next_fields v.epoch v.release left ≡ next_fields v.epoch v.release (min count 16))
 
-abbrev decreases-loop : tie.decreases-loop
-decreases-loop v count release numbers left₀ left = left
+abbrev decreases-loop-left : tie.decreases-loop-left
+decreases-loop-left v count release numbers left₀ left = left
 
 pub match_end_spec : {M : Type 1} → statement M
 match_end_spec =
     tie.close
     (tie.spec
-    invariant-loop
-    decreases-loop
+    invariant-loop-left
+    decreases-loop-left
     (λ c κs. search rules)
     (λ c. (search rules, cc))
     (λ c. search rules)

@@ -9,18 +9,18 @@ use Rattle.version_prefix.proofs.Beginnings.{begins_end, begins_not, begins_on}
 use Rattle.version_prefix.proofs.prefix.begins_with.Statement.{statement}
 use Rattle.version_prefix.proofs.prefix.begins_with.Tie as tie
 
-abbrev invariant-loop : tie.invariant-loop
-invariant-loop numbers prefix i₀ i = (i ≤ length prefix) × (begins (drop i prefix) (drop i numbers) ≡ begins prefix numbers)
+abbrev invariant-loop-i : tie.invariant-loop-i
+invariant-loop-i numbers prefix i₀ i = (i ≤ length prefix) × (begins (drop i prefix) (drop i numbers) ≡ begins prefix numbers)
 
-abbrev decreases-loop : tie.decreases-loop
-decreases-loop numbers prefix i₀ i = length prefix - i
+abbrev decreases-loop-i : tie.decreases-loop-i
+decreases-loop-i numbers prefix i₀ i = length prefix - i
 
 pub begins_with_spec : {M : Type 1} → statement M
 begins_with_spec =
     tie.close
     (tie.spec
-    invariant-loop
-    decreases-loop
+    invariant-loop-i
+    decreases-loop-i
     (λ c. (search rules, refl))
     (λ c κs. search rules)
     (λ c. search rules)

@@ -9,4 +9,4 @@ refused_spec =
     tie.close
     (tie.spec
     (λ c κs. search rules)
-    (λ c. record { is = rw c.none.ensures.is; within = search rules; near = search rules; few = search rules }))
+    (λ c. record { is = rw c.none-local.ensures.is; within = search rules; near = search rules; few = search rules }))

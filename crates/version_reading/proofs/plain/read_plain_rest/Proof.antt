@@ -14,7 +14,6 @@ read_plain_rest_spec =
     (λ c. search rules)
     (λ c. search rules)
     (λ c. search rules)
-    (λ c. search rules)
     (λ c κs. search rules)
     (λ c κs. search rules)
     (λ c. record { is = search plain_star; few = search rules; filled = search rules })

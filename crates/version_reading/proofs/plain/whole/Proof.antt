@@ -13,4 +13,4 @@ whole_spec =
     (λ c. search rules)
     (λ c. search rules)
     (λ c κs. search rules)
-    (λ c. rw c.none.ensures.is))
+    (λ c. rw c.none-local.ensures.is))

@@ -7,7 +7,7 @@ use Rattle.version_reading.proofs.Wholes.{whole_head, whole_star, whole_rest, st
 use Rattle.version_reading.proofs.text.read_by_rules.Statement.{statement}
 use Rattle.version_reading.proofs.text.read_by_rules.Tie as tie
 
-long : tie.Need-returns
+long : tie.Need-returns-then-s-gt1024
 unfolding pattern_as
 long c = record { is = search cases; few = search rules; short = search rules; near = search rules }
 
@@ -20,7 +20,6 @@ read_by_rules_spec =
     (λ c κs. search rules)
     (λ c κs. search rules)
     (λ c. record { is = search whole_head; few = search rules; short = search rules; near = search rules })
-    (λ c. search rules)
     (λ c. search rules)
     (λ c. search rules)
     (λ c. search rules)

@@ -16,6 +16,6 @@ read_wildcard_spec =
     (λ c κs. search rules)
     (λ c. record { is = search cases; few = search rules; short = search rules; near = search rules })
     (λ c κs. search rules)
-    (λ c. record { is = rw c.none.ensures.is (search cases); few = search rules; short = search rules; near = search rules })
+    (λ c. record { is = rw c.none-local.ensures.is (search cases); few = search rules; short = search rules; near = search rules })
     (λ c κs. search rules)
     (λ c. record { is = search cases; few = search rules; short = search rules; near = search rules }))

@@ -14,7 +14,6 @@ head_of_spec =
     (λ c. search rules)
     (λ c κs. search rules)
     (λ c. search head_none)
-    (λ c. search rules)
     (λ c κs. search rules)
     (λ c. search rules)
     (λ c. search rules)

@@ -10,9 +10,7 @@ suffixed_spec =
     tie.close
     (tie.spec
     (λ c κs. search rules)
-    (λ c. search rules)
     (λ c κs. search rules)
-    (λ c. search rules)
     (λ c κs. search rules)
     (λ c κs. search rules)
     (λ c. search plain_none)

@@ -9,18 +9,18 @@ use Rattle.version_rows.proofs.Filled.{release_turn, release_end}
 use Rattle.version_rows.proofs.row.put_release.Statement.{statement}
 use Rattle.version_rows.proofs.row.put_release.Tie as tie
 
-abbrev invariant-loop : tie.invariant-loop
-invariant-loop row₀ numbers count i₀ row i = (i ≤ count) × (length row ≡ 22) × (row ≡ paste row₀ 1 numbers i)
+abbrev invariant-loop-i : tie.invariant-loop-i
+invariant-loop-i row₀ numbers count i₀ row i = (i ≤ count) × (length row ≡ 22) × (row ≡ paste row₀ 1 numbers i)
 
-abbrev decreases-loop : tie.decreases-loop
-decreases-loop row₀ numbers count i₀ row i = count - i
+abbrev decreases-loop-i : tie.decreases-loop-i
+decreases-loop-i row₀ numbers count i₀ row i = count - i
 
 pub put_release_spec : {M : Type 1} → statement M
 put_release_spec =
     tie.close
     (tie.spec
-    invariant-loop
-    decreases-loop
+    invariant-loop-i
+    decreases-loop-i
     (λ c κs. search rules)
     (λ c. (search rules, search rules, search paste-zero))
     (λ c. search rules)

@@ -1,0 +1,7 @@
+-- Three texts in a row.
+use borrow.Author.Rules.{rules}
+use Rattle.answer_lines.proofs.Texts.{three_put}
+use Rattle.answer_lines.proofs.text.put_refusal.Goals as goal
+
+pub returns : goal.returns
+returns c = record { wrote = search three_put; near = search rules }

@@ -1,0 +1,16 @@
+// Looking for a byte in a text.
+ghost use Rattle.chars.specs.Scan.{FoundFrom};
+
+// The place of the first byte b at `from` or after it, and the end of the text where there is none. Behind the end it is `from` itself.
+pub fn find(s: &[u8], from: usize, b: u8) -> usize
+    ensures { FoundFrom s.now from b result }
+{
+    let mut at = from;
+    while at < s.len() {
+        if s[at] == b {
+            return at;
+        }
+        at += 1;
+    }
+    at
+}
