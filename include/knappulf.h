@@ -1,7 +1,7 @@
 /* Knappulf: versions in the style of PEP 440, whole or in lumps, lists of version clauses, the range tables compiled
  * from them, and registers of such tables.
  *
- * Link target/staticlib/libknappulf.a (`rt staticlib knappulf` makes it; x86-64 Linux). It needs memcpy and memset of
+ * Link crates/knappulf/out/libknappulf.a (`rt lib` in crates/knappulf makes it; x86-64 Linux). It needs memcpy and memset of
  * the C library and nothing else. Each function returns on every input, allocates nothing, keeps nothing between two
  * calls and writes only where this page says so; so calls from several threads need no lock.
  *
