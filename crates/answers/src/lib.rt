@@ -1,25 +1,18 @@
-// What calls answer: one kind of refusal everywhere, one answer for all that count or write, and one for all that say yes or no.
+// Why calls refuse: one kind of refusal everywhere, and one for calls that judge two inputs.
 #![tactic(auto)]
 
-// A refusal's number and its place, as the table of refusals has them.
+// A refusal's number and its place, as the table of refusals has them. The number is no enum: it is what C is told, and what the statements that
+// name each refusal's case (`Fault`) range over.
 #[derive(Clone, Copy)]
 pub struct Refusal {
     pub number: u8,
     pub place: usize,
 }
 
-// How long something is, a text that was written in bytes or a list in clauses; or why there is none.
+// Which of the two inputs of a call is refused, and why: a list or a table before a version, a register before a version, the first version
+// before the second.
 #[derive(Clone, Copy)]
-pub enum Measured {
-    Length(usize),
-    Refused(Refusal),
-}
-
-// Yes, no, or which of the two inputs is refused.
-#[derive(Clone, Copy)]
-pub enum YesNo {
-    Yes,
-    No,
+pub enum RefusedInput {
     First(Refusal),
     Second(Refusal),
 }

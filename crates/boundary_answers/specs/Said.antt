@@ -1,22 +1,15 @@
 -- Answers in numbers: a call returns the refusal's number, 0 for none, and leaves three numbers in the lent answer: the value, the place and which text.
-use Rattle.std.specs.Prelude.{◌≡◌, Bool, false, List, [], ◌∷◌, ℕ, ◌+◌, ◌*◌}
+use Rattle.version_word.specs.declared.packed.Word.{Word}
+use Rattle.std.specs.declared.cmp.Ordering.TheVariants.{Less, Equal, Greater}
+use Rattle.std.specs.declared.cmp.Ordering.{Ordering as Order}
+use Rattle.answers.specs.declared.RefusedInput.TheVariants.{First, Second}
+use Rattle.answers.specs.declared.RefusedInput.{RefusedInput}
+use Rattle.std.specs.Prelude.{◌≡◌, Bool, false, List, [], ◌∷◌, ℕ, ◌+◌, ◌*◌, Result, Ok, Err, true, Option, Some, None}
 use Rattle.answers.specs.declared.Refusal.{Refusal}
-use Rattle.answers.specs.declared.Measured.{Measured}
-use Rattle.answers.specs.declared.Measured.TheVariants.{Length, Refused as NotMeasured}
-use Rattle.answers.specs.declared.YesNo.{YesNo}
-use Rattle.answers.specs.declared.YesNo.TheVariants.{Yes, No, First as OfFirst, Second as OfSecond}
 use Rattle.version_reading.specs.declared.text.Verdict.{Verdict}
 use Rattle.version_reading.specs.declared.text.Verdict.TheVariants.{Accepted, Refused as NotRead}
-use Rattle.fragment_rules.specs.declared.answer.Says.{Says}
-use Rattle.fragment_rules.specs.declared.answer.Says.TheVariants.{Nothing, Given}
-use Rattle.version_order.specs.declared.compared.Compared.{Compared}
-use Rattle.version_order.specs.declared.compared.Compared.TheVariants.{Less, Equal, Greater, First, Second}
-use Rattle.version_word.specs.declared.packed.Worded.{Worded}
-use Rattle.version_word.specs.declared.packed.Worded.TheVariants.{Word, NotSmall, Refused as NotWorded}
 use Rattle.register_rules.specs.declared.lowest.Lowest.{Lowest}
 use Rattle.register_rules.specs.declared.lowest.Lowest.TheVariants.{Nothing as NoTable, One, Two}
-use Rattle.register_rules.specs.declared.fit.Fit.{Fit}
-use Rattle.register_rules.specs.declared.fit.Fit.TheVariants.{By, Register as OfRegister, Version as OfUnit}
 use Rattle.fragment_rules.specs.Lent.{flag}
 use Rattle.boundary_answers.specs.declared.said.Said.{Said}
 
@@ -36,33 +29,36 @@ of_verdict (NotRead x) wildcard = refused_of 1 x
 abbrev pub not_yet : Said
 not_yet = record { number = 255; value = 0; place = 0; of = 0 }
 
-abbrev pub of_says : Says → Said
-of_says Nothing = not_yet
-of_says (Given verdict) = of_verdict verdict false
+abbrev pub of_says : Option Verdict → Said
+of_says None = not_yet
+of_says (Some verdict) = of_verdict verdict false
 
 -- the length
-abbrev pub of_measured : Measured → Said
-of_measured (Length n) = answered n
-of_measured (NotMeasured x) = refused_of 1 x
+abbrev pub of_measured : Result ℕ Refusal → Said
+of_measured (Ok n) = answered n
+of_measured (Err x) = refused_of 1 x
 
-abbrev pub of_compared : Compared → Said
-of_compared Less = answered 0
-of_compared Equal = answered 1
-of_compared Greater = answered 2
-of_compared (First x) = refused_of 1 x
-of_compared (Second x) = refused_of 2 x
+-- which of the two inputs is refused
+abbrev pub of_refused : RefusedInput → Said
+of_refused (First x) = refused_of 1 x
+of_refused (Second x) = refused_of 2 x
+
+abbrev pub of_compared : Result Order RefusedInput → Said
+of_compared (Ok Less) = answered 0
+of_compared (Ok Equal) = answered 1
+of_compared (Ok Greater) = answered 2
+of_compared (Err input) = of_refused input
 
 -- the word, 0 for none: no version has the word 0
-abbrev pub of_worded : Worded → Said
-of_worded (Word w) = answered w.0
-of_worded NotSmall = answered 0
-of_worded (NotWorded x) = refused_of 1 x
+abbrev pub of_worded : Result (Option Word) Refusal → Said
+of_worded (Ok (Some w)) = answered w.0
+of_worded (Ok None) = answered 0
+of_worded (Err x) = refused_of 1 x
 
-abbrev pub of_yes_no : YesNo → Said
-of_yes_no No = answered 0
-of_yes_no Yes = answered 1
-of_yes_no (OfFirst x) = refused_of 1 x
-of_yes_no (OfSecond x) = refused_of 2 x
+abbrev pub of_yes_no : Result Bool RefusedInput → Said
+of_yes_no (Ok false) = answered 0
+of_yes_no (Ok true) = answered 1
+of_yes_no (Err input) = of_refused input
 
 -- the lowest identifier and, 65,536 times, the second lowest; 0 for each that there is not: no identifier of a register that is not refused is 0
 abbrev pub of_lowest : Lowest → Said
@@ -70,10 +66,9 @@ of_lowest NoTable = answered 0
 of_lowest (One id) = answered id
 of_lowest (Two first second) = answered (first + 65536 * second)
 
-abbrev pub of_fit : Fit → Said
-of_fit (By lowest) = of_lowest lowest
-of_fit (OfRegister x) = refused_of 1 x
-of_fit (OfUnit x) = refused_of 2 x
+abbrev pub of_fit : Result Lowest RefusedInput → Said
+of_fit (Ok lowest) = of_lowest lowest
+of_fit (Err input) = of_refused input
 
 abbrev pub left : Said → List ℕ
 left said = said.value ∷ said.place ∷ said.of ∷ []

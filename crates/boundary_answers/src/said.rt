@@ -1,14 +1,12 @@
 // Answers in numbers: what a call returns, and what it leaves in the lent answer.
 ghost use Rattle.std.specs.Prelude.{◌≡◌};
-ghost use Rattle.boundary_answers.specs.Said.{Told, answered, refused_of, of_verdict, of_says, of_measured, of_compared, of_worded, of_yes_no, of_lowest, of_fit};
+ghost use Rattle.boundary_answers.specs.Said.{Told, answered, refused_of, of_refused, of_verdict, of_says, of_measured, of_compared, of_worded, of_yes_no, of_lowest, of_fit};
 
-use answers::{Measured, Refusal, YesNo};
-use fragment_rules::answer::Says;
-use register_rules::fit::Fit;
+use answers::{Refusal, RefusedInput};
 use register_rules::lowest::Lowest;
-use version_order::compared::Compared;
+use std::cmp::Ordering;
 use version_reading::text::Verdict;
-use version_word::packed::Worded;
+use version_word::packed::Word;
 
 // A refusal's number and place, and which of the two texts it is about; or a value, with 0 for the rest.
 #[derive(Clone, Copy)]
@@ -51,59 +49,67 @@ pub fn of_verdict(verdict: Verdict, wildcard: bool) -> Said
 }
 
 // While a reader of lumps has nothing to say, the number is none of a refusal.
-pub fn of_says(says: Says) -> Said
+pub fn of_says(says: Option<Verdict>) -> Said
     ensures { result ≡ of_says says }
 {
     match says {
-        Says::Nothing => Said {
+        None => Said {
             number: 255,
             value: 0,
             place: 0,
             of: 0,
         },
-        Says::Given(verdict) => of_verdict(verdict, false),
+        Some(verdict) => of_verdict(verdict, false),
     }
 }
 
-pub fn of_measured(measured: Measured) -> Said
+pub fn of_measured(measured: Result<usize, Refusal>) -> Said
     ensures { result ≡ of_measured measured }
 {
     match measured {
-        Measured::Length(length) => answer(length as u64),
-        Measured::Refused(refusal) => refused(1, refusal),
+        Ok(length) => answer(length as u64),
+        Err(refusal) => refused(1, refusal),
     }
 }
 
-pub fn of_compared(compared: Compared) -> Said
+// Which of the two inputs is refused, and why.
+fn of_refused(input: RefusedInput) -> Said
+    ensures { result ≡ of_refused input }
+{
+    match input {
+        RefusedInput::First(refusal) => refused(1, refusal),
+        RefusedInput::Second(refusal) => refused(2, refusal),
+    }
+}
+
+pub fn of_compared(compared: Result<Ordering, RefusedInput>) -> Said
     ensures { result ≡ of_compared compared }
 {
     match compared {
-        Compared::Less => answer(0),
-        Compared::Equal => answer(1),
-        Compared::Greater => answer(2),
-        Compared::First(refusal) => refused(1, refusal),
-        Compared::Second(refusal) => refused(2, refusal),
+        Ok(Ordering::Less) => answer(0),
+        Ok(Ordering::Equal) => answer(1),
+        Ok(Ordering::Greater) => answer(2),
+        Err(input) => of_refused(input),
     }
 }
 
-pub fn of_worded(worded: Worded) -> Said
+pub fn of_worded(worded: Result<Option<Word>, Refusal>) -> Said
     ensures { result ≡ of_worded worded }
 {
     match worded {
-        Worded::Word(word) => answer(word.0),
-        Worded::NotSmall => answer(0),
-        Worded::Refused(refusal) => refused(1, refusal),
+        Ok(Some(word)) => answer(word.0),
+        Ok(None) => answer(0),
+        Err(refusal) => refused(1, refusal),
     }
 }
 
-pub fn of_yes_no(yes_no: YesNo) -> Said
+pub fn of_yes_no(yes_no: Result<bool, RefusedInput>) -> Said
     ensures { result ≡ of_yes_no yes_no }
 {
     match yes_no {
-        YesNo::No => answer(0),
-        YesNo::Yes => answer(1),
-        YesNo::First(refusal) => refused(1, refusal),
-        YesNo::Second(refusal) => refused(2, refusal),
+        Ok(false) => answer(0),
+        Ok(true) => answer(1),
+        Err(input) => of_refused(input),
     }
 }
 
@@ -118,13 +124,12 @@ fn of_lowest(lowest: Lowest) -> Said
     }
 }
 
-pub fn of_fit(fit: Fit) -> Said
+pub fn of_fit(fit: Result<Lowest, RefusedInput>) -> Said
     ensures { result ≡ of_fit fit }
 {
     match fit {
-        Fit::By(lowest) => of_lowest(lowest),
-        Fit::Register(refusal) => refused(1, refusal),
-        Fit::Version(refusal) => refused(2, refusal),
+        Ok(lowest) => of_lowest(lowest),
+        Err(input) => of_refused(input),
     }
 }
 

@@ -1,7 +1,8 @@
 -- The fields of a text that says a plain version.
 -- Assumes nothing.
+use Rattle.std.specs.Prelude.{Option, Some}
 use mathlib.Core.Path.{◌≡◌, refl, ◌∙◌}
-use mathlib.Core.Bool.{true, false}
+use mathlib.Core.Bool.{Bool, false}
 use mathlib.Core.List.{List, [], ◌∷◌, ◌++◌}
 use Prim.Native.Nat.{ℕ}
 use lib.ListN.{replicate}
@@ -9,7 +10,6 @@ use lib.Seq.{sets}
 use Rattle.chars.specs.Class.{front}
 use Rattle.decimal.specs.Parse.{value_from, number_of}
 use Rattle.version_reading.specs.declared.plain.Plain.{Plain}
-use Rattle.version_reading.specs.declared.plain.PlainReading.{PlainReading}
 use Rattle.version_reading.specs.Segment.{segment_of, segment_bytes}
 use Rattle.version_reading.specs.Reading.{pattern_as, version_of}
 use Rattle.version_reading.specs.Plain.{plain_of, whole_version}
@@ -26,10 +26,10 @@ text_apart : (s : List ℕ) (v : Plain) → fields_of [] (whole_version v) ≡ f
 unfolding fields_of segment_rows segment_row span_at segment_bytes segment_of number_of value_from front
 text_apart s v = refl
 
-module _ (s : List ℕ) (r : PlainReading) (e : r ≡ plain_of s) (f : r.found ≡ true) where
-  pub plain_pattern : (old new : List ℕ) → new ≡ fields_of [] (whole_version r.plain) → new ≡ fields_by (pattern_as true s).verdict s (pattern_as true s).version old
-  plain_pattern old new g = rw (plain_said true s r e f) (g ∙ text_apart s r.plain)
+module _ (s : List ℕ) (r : Option Plain) (v : Plain) (e : r ≡ plain_of s) (f : r ≡ Some v) where
+  pub plain_pattern : (wildcards : Bool) (old new : List ℕ) → new ≡ fields_of [] (whole_version v) → new ≡ fields_by (pattern_as wildcards s).verdict s (pattern_as wildcards s).version old
+  plain_pattern wildcards old new g = rw (plain_said wildcards s r v e f) (g ∙ text_apart s v)
 
-  pub plain_version : (old new : List ℕ) → new ≡ fields_of [] (whole_version r.plain) → new ≡ fields_by (version_of s).verdict s (version_of s).version old
+  pub plain_version : (old new : List ℕ) → new ≡ fields_of [] (whole_version v) → new ≡ fields_by (version_of s).verdict s (version_of s).version old
   unfolding version_of
-  plain_version old new g = rw (plain_said false s r e f) (g ∙ text_apart s r.plain)
+  plain_version old new g = rw (plain_said false s r v e f) (g ∙ text_apart s v)

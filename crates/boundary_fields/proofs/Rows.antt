@@ -1,14 +1,16 @@
 -- Laws of the numbers that are written in a row.
 -- Assumes nothing.
+use Rattle.std.specs.Prelude.{Option, None, Some}
 use mathlib.Core.Path.{◌≡◌, refl, sym, ap, ◌∙◌}
-use mathlib.Core.List.{List, [], ◌∷◌, ◌++◌, append-nil}
+use mathlib.Core.List.{List, [], ◌∷◌, ◌++◌, append-nil, append_assoc}
 use Prim.Native.Nat.{ℕ, suc, ◌+◌, ◌-◌, ◌*◌, ◌≤◌, ◌<◌}
-use native.Mathlib.Nat.{zero-add, add-suc}
+use native.Mathlib.Nat.{zero-add}
 use native.Mathlib.Numerals.{add-one}
 use native.Mathlib.Omega.{arith}
-use lib.ListN.{length, length-append, get_or, set, drop, drop_of_length-le}
-use lib.Seq.{sets, sets-eq, length-sets, drop-cons, drop-length}
+use lib.ListN.{length, length-append, take, drop}
+use lib.Seq.{sets, sets-eq, length-sets, drop-drop, drop-length}
 use borrow.Author.Tests.{le-leb}
+use borrow.Rule.Slice.PartMut.{put_mid}
 use Rattle.answers.specs.declared.Refusal.{Refusal}
 use Rattle.chars.specs.Class.{front}
 use Rattle.decimal.specs.Parse.{value_from, number_of}
@@ -21,21 +23,15 @@ use Rattle.version_reading.specs.declared.text.Verdict.TheVariants.{Accepted, Re
 use Rattle.version_reading.specs.Segment.{segment_of, segment_bytes}
 use Rattle.decimal.specs.Put.{Wrote}
 use Rattle.decimal.proofs.Puts.{then}
-use Rattle.fragment_rules.specs.declared.answer.Says.{Says}
-use Rattle.fragment_rules.specs.declared.answer.Says.TheVariants.{Nothing, Given}
 use Rattle.boundary_fields.specs.declared.pair.Pair.{Pair}
 use Rattle.boundary_fields.specs.Pair.{segment_pair}
 use Rattle.boundary_fields.specs.Fields.{span_at, parts, row, segment_row, segment_rows, fields_of, fields_by, fields_said}
 
--- one number more
-pub number_next : (s l₀ l : List ℕ) (at i : ℕ) → i < length s → sets l (at + i) (drop i s) ≡ sets l₀ at s → sets (set l (at + i) (get_or s i 0)) (at + (i + 1)) (drop (i + 1) s) ≡ sets l₀ at s
-number_next s l₀ l at i h e =
-    let step : sets l (at + i) (get_or s i 0 ∷ drop (suc i) s) ≡ sets l₀ at s = rw (← drop-cons s i 0 h) e in
-    rw (add-one i, add-suc at i) step
-
--- no number is left
-pub numbers_done : (s l₀ l : List ℕ) (at i : ℕ) → length s ≤ i → sets l (at + i) (drop i s) ≡ sets l₀ at s → l ≡ sets l₀ at s
-numbers_done s l₀ l at i h e = ap (sets l (at + i)) (sym (drop_of_length-le s h)) ∙ e
+-- the numbers over a part of as many
+pub part_stored : (l s part : List ℕ) (at : ℕ) → at + length s ≤ length l → part ≡ s → put_mid at (at + length s - at) l part ≡ sets l at s
+part_stored l s part at h f =
+    let size : at + length s - at ≡ length s = omega arith in
+    rw (size, f, sets-eq s l at h, drop-drop) (sym (append_assoc (take at l) s (drop (at + length s) l)))
 
 -- one row more
 pub row_next : (s : List ℕ) (local : Local) (l new t : List ℕ) (at i : ℕ) → i < 16 → sets l (at + 4 * i) (segment_rows s local i (16 - i)) ≡ t → new ≡ sets l (at + 4 * i) (segment_row s local i) → sets new (at + 4 * (i + 1)) (segment_rows s local (i + 1) (16 - (i + 1))) ≡ t
@@ -82,8 +78,8 @@ pub fields_refused : (s : List ℕ) (v : Version) (old : List ℕ) (x : Verdict)
 fields_refused s v old x refusal e = rw e
 
 -- and by whether there is one
-pub said_given : (s : List ℕ) (v : Version) (old new : List ℕ) (says : Says) (x : Verdict) → says ≡ Given x → new ≡ fields_by x s v old → new ≡ fields_said says s v old
+pub said_given : (s : List ℕ) (v : Version) (old new : List ℕ) (says : Option Verdict) (x : Verdict) → says ≡ Some x → new ≡ fields_by x s v old → new ≡ fields_said says s v old
 said_given s v old new says x e f = rw e f
 
-pub said_nothing : (s : List ℕ) (v : Version) (old : List ℕ) (says : Says) → says ≡ Nothing → old ≡ fields_said says s v old
+pub said_nothing : (s : List ℕ) (v : Version) (old : List ℕ) (says : Option Verdict) → says ≡ None → old ≡ fields_said says s v old
 said_nothing s v old says e = rw e

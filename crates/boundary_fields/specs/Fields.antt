@@ -1,5 +1,5 @@
 -- The fields of a version as 89 numbers: nine parts, sixteen release numbers, and four numbers for each of sixteen segments.
-use Rattle.std.specs.Prelude.{List, [], ◌∷◌, ◌++◌, cond, ℕ, zero, suc, ltb, get_or}
+use Rattle.std.specs.Prelude.{List, [], ◌∷◌, ◌++◌, cond, ℕ, zero, suc, ltb, get_or, Option, None, Some}
 use Rattle.version_parts.specs.declared.fields.Span.{Span}
 use Rattle.version_parts.specs.declared.fields.Local.{Local}
 use Rattle.version_parts.specs.declared.fields.Version.{Version}
@@ -7,8 +7,6 @@ use Rattle.version_reading.specs.declared.segment.Segment.{Segment}
 use Rattle.version_reading.specs.declared.segment.Segment.TheVariants.{Number, Text}
 use Rattle.version_reading.specs.declared.text.Verdict.{Verdict}
 use Rattle.version_reading.specs.declared.text.Verdict.TheVariants.{Accepted, Refused}
-use Rattle.fragment_rules.specs.declared.answer.Says.{Says}
-use Rattle.fragment_rules.specs.declared.answer.Says.TheVariants.{Nothing, Given}
 use Rattle.version_parts.specs.Fields.{no_span}
 use Rattle.version_reading.specs.Reading.{version_of}
 use Rattle.version_reading.specs.Segment.{segment_of, segment_bytes}
@@ -53,9 +51,9 @@ fields_by Accepted s v old = fields_of s v
 fields_by (Refused x) s v old = old
 
 -- and so does a reader of lumps that has nothing to say
-abbrev pub fields_said : Says → List ℕ → Version → List ℕ → List ℕ
-fields_said Nothing s v old = old
-fields_said (Given verdict) s v old = fields_by verdict s v old
+abbrev pub fields_said : Option Verdict → List ℕ → Version → List ℕ → List ℕ
+fields_said None s v old = old
+fields_said (Some verdict) s v old = fields_by verdict s v old
 
 -- where the text segment with that index begins; 0 where there is none
 abbrev pub start_of : Segment → Span → ℕ

@@ -1,11 +1,7 @@
 -- Parts of a version as two numbers: which kind it is, and its number.
-use Rattle.std.specs.Prelude.{ℕ}
+use Rattle.std.specs.Prelude.{ℕ, Option, None, Some}
 use Rattle.chars.specs.declared.spelling.PreKind.{PreKind}
 use Rattle.chars.specs.declared.spelling.PreKind.TheVariants.{Alpha, Beta, Rc}
-use Rattle.version_parts.specs.declared.fields.Pre.{Pre}
-use Rattle.version_parts.specs.declared.fields.Pre.TheVariants.{Absent as NoPre, Is as IsPre}
-use Rattle.version_parts.specs.declared.fields.MaybeNumber.{MaybeNumber}
-use Rattle.version_parts.specs.declared.fields.MaybeNumber.TheVariants.{Absent as NoPart, Is as IsPart}
 use Rattle.version_reading.specs.declared.segment.Segment.{Segment}
 use Rattle.version_reading.specs.declared.segment.Segment.TheVariants.{Number, Text}
 use Rattle.boundary_fields.specs.declared.pair.Pair.{Pair}
@@ -16,13 +12,13 @@ kind_number Beta = 2
 kind_number Rc = 3
 
 -- kind 0: there is none
-abbrev pub pre_pair : Pre → Pair
-pre_pair NoPre = record { kind = 0; number = 0 }
-pre_pair (IsPre kind n) = record { kind = kind_number kind; number = n }
+abbrev pub pre_pair : Option (PreKind × ℕ) → Pair
+pre_pair None = record { kind = 0; number = 0 }
+pre_pair (Some (kind, n)) = record { kind = kind_number kind; number = n }
 
-abbrev pub part_pair : MaybeNumber → Pair
-part_pair NoPart = record { kind = 0; number = 0 }
-part_pair (IsPart n) = record { kind = 1; number = n }
+abbrev pub part_pair : Option ℕ → Pair
+part_pair None = record { kind = 0; number = 0 }
+part_pair (Some n) = record { kind = 1; number = n }
 
 -- kind 1: a text
 abbrev pub segment_pair : Segment → Pair

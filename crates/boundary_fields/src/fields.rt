@@ -5,7 +5,6 @@ ghost use Rattle.version_reading.specs.Plain.{whole_version};
 ghost use Rattle.boundary_fields.specs.Fields.{span_at, parts, segment_row, segment_rows, fields_of, fields_by, fields_said};
 
 use crate::pair::{part_pair, pre_pair, segment_pair};
-use fragment_rules::answer::Says;
 use version_parts::fields::{Local, Span, Version};
 use version_reading::plain::Plain;
 use version_reading::segment::{segment_bytes, segment_of};
@@ -16,11 +15,7 @@ fn put_numbers(fields: &mut [u64], at: usize, numbers: &[u64])
     requires { at + length numbers.now ≤ length fields.old }
     ensures { fields.new ≡ sets fields.old at numbers.now }
 {
-    let mut i = 0;
-    while i < numbers.len() {
-        fields[at + i] = numbers[i];
-        i += 1;
-    }
+    fields[at..at + numbers.len()].copy_from_slice(numbers);
 }
 
 // Where the segment with that index lies; the blank span where there is none.
@@ -38,14 +33,9 @@ fn put_parts(fields: &mut [u64], version: Version)
     requires { 9 ≤ length fields.old }
     ensures { fields.new ≡ sets fields.old 0 (parts version) }
 {
-    let release = version.release;
-    let local = version.local;
-    let pre_field = version.pre;
-    let post_field = version.post;
-    let dev_field = version.dev;
-    let pre = pre_pair(pre_field);
-    let post = part_pair(post_field);
-    let dev = part_pair(dev_field);
+    let pre = pre_pair(version.pre);
+    let post = part_pair(version.post);
+    let dev = part_pair(version.dev);
     let numbers = [
         version.epoch,
         pre.kind,
@@ -54,8 +44,8 @@ fn put_parts(fields: &mut [u64], version: Version)
         post.number,
         dev.kind,
         dev.number,
-        release.len as u64,
-        local.len as u64,
+        version.release.len as u64,
+        version.local.len as u64,
     ];
     put_numbers(fields, 0, &numbers)
 }
@@ -78,10 +68,8 @@ fn put_segments(fields: &mut [u64], at: usize, text: &[u8], local: Local)
     requires { at + 64 ≤ length fields.old }
     ensures { fields.new ≡ sets fields.old at (segment_rows text.now local 0 16) }
 {
-    let mut i = 0;
-    while i < 16 {
+    for i in 0..16 {
         put_segment(fields, at + 4 * i, text, local, i);
-        i += 1;
     }
 }
 
@@ -89,24 +77,19 @@ fn put_segments(fields: &mut [u64], at: usize, text: &[u8], local: Local)
 fn put_fields(fields: &mut [u64; 89], text: &[u8], version: Version)
     ensures { fields.new ≡ fields_of text.now version }
 {
-    let release = version.release;
-    let numbers = release.numbers;
-    let local = version.local;
+    let numbers = version.release.numbers;
     put_parts(fields, version);
     put_numbers(fields, 9, &numbers);
-    put_segments(fields, 25, text, local);
+    put_segments(fields, 25, text, version.local);
 }
 
 // All the fields of a plain version: what it has not is 0.
 pub fn put_plain(fields: &mut [u64; 89], plain: Plain)
     ensures { fields.new ≡ fields_of [] (whole_version plain) }
 {
-    let pre_field = plain.pre;
-    let post_field = plain.post;
-    let dev_field = plain.dev;
-    let pre = pre_pair(pre_field);
-    let post = part_pair(post_field);
-    let dev = part_pair(dev_field);
+    let pre = pre_pair(plain.pre);
+    let post = part_pair(plain.post);
+    let dev = part_pair(plain.dev);
     let numbers = [
         0,
         pre.kind,
@@ -136,10 +119,10 @@ pub fn put_accepted(fields: &mut [u64; 89], text: &[u8], verdict: Verdict, versi
 }
 
 // A reader of lumps that has nothing to say leaves them too.
-pub fn put_said(fields: &mut [u64; 89], text: &[u8], says: Says, version: Version)
+pub fn put_said(fields: &mut [u64; 89], text: &[u8], says: Option<Verdict>, version: Version)
     ensures { fields.new ≡ fields_said says text.now version fields.old }
 {
-    if let Says::Given(verdict) = says {
+    if let Some(verdict) = says {
         put_accepted(fields, text, verdict, version);
     }
 }

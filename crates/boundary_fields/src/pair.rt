@@ -3,7 +3,7 @@ ghost use Rattle.std.specs.Prelude.{◌≡◌};
 ghost use Rattle.boundary_fields.specs.Pair.{kind_number, pre_pair, part_pair, segment_pair};
 
 use chars::spelling::PreKind;
-use version_parts::fields::{MaybeNumber, Pre};
+use version_parts::fields::Pre;
 use version_reading::segment::Segment;
 
 #[derive(Clone, Copy)]
@@ -22,24 +22,24 @@ fn kind_number(kind: PreKind) -> u64
     }
 }
 
-pub(crate) fn pre_pair(pre: Pre) -> Pair
+pub(crate) fn pre_pair(pre: Option<Pre>) -> Pair
     ensures { result ≡ pre_pair pre }
 {
     match pre {
-        Pre::Absent => Pair { kind: 0, number: 0 },
-        Pre::Is(kind, number) => Pair {
+        None => Pair { kind: 0, number: 0 },
+        Some((kind, number)) => Pair {
             kind: kind_number(kind),
             number,
         },
     }
 }
 
-pub(crate) fn part_pair(part: MaybeNumber) -> Pair
+pub(crate) fn part_pair(part: Option<u64>) -> Pair
     ensures { result ≡ part_pair part }
 {
     match part {
-        MaybeNumber::Absent => Pair { kind: 0, number: 0 },
-        MaybeNumber::Is(number) => Pair { kind: 1, number },
+        None => Pair { kind: 0, number: 0 },
+        Some(number) => Pair { kind: 1, number },
     }
 }
 

@@ -1,17 +1,17 @@
 -- Laws of lower case and beginnings: one step of the comparison, and what a beginning's length says.
 -- Assumes nothing.
-use mathlib.Core.Path.{◌≡◌, refl, ◌∙◌, sym, ap}
-use mathlib.Core.Bool.{Bool, true, false, cond}
+use mathlib.Core.Path.{◌≡◌, refl, ap}
+use mathlib.Core.Bool.{Bool, true, false, cond, ◌&&◌}
 use mathlib.Core.List.{List, [], ◌∷◌}
 use Prim.Native.Nat.{ℕ, suc, ◌+◌, ◌≤◌, ◌<◌}
-use native.Mathlib.Numerals.{add-one}
 use native.Mathlib.Omega.{arith}
-use lib.ListN.{length, get_or, drop, drop_of_length-le}
-use lib.Seq.{drop-cons}
-use borrow.Author.Tests.{eq-eqb, ne_eqb, le-leb, lt-leb}
-use Rattle.chars.specs.Case.{lower_of, lowered, starts_with, beginning_of}
+use lib.Dec.{leb, eqb}
+use Rattle.std.specs.List.{list_all, zip}
+use lib.ListN.{length}
+use borrow.Author.Tests.{leb-true, leb-false, le-leb, lt-leb}
+use Rattle.chars.specs.Case.{lower_of, lowered, starts_with, beginning_of, Begun}
 
--- the ways of `lower`
+-- a byte in lower case, by where it lies
 module _ (b : ℕ) where
   pub lower_under : b < 65 → b ≡ lower_of b
   unfolding lower_of
@@ -30,27 +30,55 @@ unfolding lowered
 lowered_length [] = refl
 lowered_length (b ∷ s) = ap suc (lowered_length s)
 
--- the ways of `beginning`, at place i of both texts and the text's byte r there in lower case
-module _ (w s : List ℕ) (i r : ℕ) (same : starts_with (drop i w) (drop i s) ≡ starts_with w s) where
-  pub begins_short : i < length w → length s ≤ i → 0 ≡ beginning_of w s
-  unfolding starts_with beginning_of
-  begins_short h g = rw (← same, drop-cons w i 0 h, drop_of_length-le s g)
+never_longer : (w s : List ℕ) → length s < length w → starts_with w s ≡ false
+unfolding starts_with
+never_longer [] s h = absurd (omega arith)
+never_longer (x ∷ w) [] h = refl
+never_longer (x ∷ w) (b ∷ s) h = by (eqb (lower_of b) x) (never_longer w s (omega arith))
+  where
+    by : (t : Bool) → starts_with w s ≡ false → cond t (starts_with w s) false ≡ false
+    by true e = e
+    by false e = refl
 
-  pub begins_not : i < length w → i < length s → r ≡ lower_of (get_or s i 0) → (r ≡ get_or w i 0 → ⊥) → 0 ≡ beginning_of w s
-  unfolding starts_with beginning_of
-  begins_not h g e n = rw (← same, drop-cons w i 0 h, drop-cons s i 0 g, ne_eqb _ _ (λ q. n (e ∙ q)))
+-- the pairs of the bytes of two texts, as long as both last
+abbrev pub same_as : List ℕ → List ℕ → Bool
+same_as s w = list_all (λ (p : ℕ × ℕ). eqb (lower_of p.0) p.1) (zip s w)
 
-  pub begins_on : i < length w → i < length s → r ≡ lower_of (get_or s i 0) → r ≡ get_or w i 0 →
-      starts_with (drop (i + 1) w) (drop (i + 1) s) ≡ starts_with w s
-  unfolding starts_with
-  begins_on h g e f =
-      let more : starts_with (drop i w) (drop i s) ≡ starts_with (drop (i + 1) w) (drop (i + 1) s) =
-      rw (drop-cons w i 0 h, drop-cons s i 0 g, eq-eqb _ _ (sym e ∙ f), add-one i) in
-      sym more ∙ same
+pub same_pairs : (w s : List ℕ) → length w ≤ length s → list_all (λ (p : ℕ × ℕ). eqb (lower_of p.0) p.1) (zip s w) ≡ starts_with w s
+unfolding starts_with
+same_pairs [] [] h = refl
+same_pairs [] (b ∷ s) h = refl
+same_pairs (x ∷ w) [] h = absurd (omega arith)
+same_pairs (x ∷ w) (b ∷ s) h = by (eqb (lower_of b) x) (same_pairs w s (omega arith))
+  where
+    by : (t : Bool) → list_all (λ (p : ℕ × ℕ). eqb (lower_of p.0) p.1) (zip s w) ≡ starts_with w s → (t && list_all (λ (p : ℕ × ℕ). eqb (lower_of p.0) p.1) (zip s w)) ≡ cond t (starts_with w s) false
+    by true e = e
+    by false e = refl
 
-pub begins_all : (w s : List ℕ) (i : ℕ) → starts_with (drop i w) (drop i s) ≡ starts_with w s → i ≤ length w → length w ≤ i → i ≡ beginning_of w s
-unfolding starts_with beginning_of
-begins_all w s i same g h = rw (← same, drop_of_length-le w h) (omega arith)
+module _ (w s : List ℕ) where
+  pub begun_as : length w ≤ length s → true ≡ same_as s w → Begun w s (length w)
+  unfolding beginning_of
+  begun_as h e = record { is = rw (← same_pairs w s h, ← e); within = h }
+
+  pub not_begun_as : length w ≤ length s → false ≡ same_as s w → Begun w s 0
+  unfolding beginning_of
+  not_begun_as h e = record { is = rw (← same_pairs w s h, ← e); within = omega arith }
+
+  pub too_short : length s < length w → Begun w s 0
+  unfolding beginning_of
+  too_short h = record { is = rw (never_longer w s h); within = omega arith }
+
+pub beginning_within : (w s : List ℕ) → beginning_of w s ≤ length s
+unfolding beginning_of
+beginning_within w s = by (leb (length w) (length s)) refl
+  where
+    short : (t : Bool) → (length w ≤ length s) → cond t (length w) 0 ≤ length s
+    short true h = h
+    short false h = omega arith
+
+    by : (t : Bool) → leb (length w) (length s) ≡ t → cond (starts_with w s) (length w) 0 ≤ length s
+    by true e = short (starts_with w s) (leb-true _ _ e)
+    by false e = rw (never_longer w s (leb-false _ _ e)) (omega arith)
 
 -- What the length n of a beginning says. The word has a byte, so that 0 says that the text does not begin with it.
 module _ (x : ℕ) (w s : List ℕ) (n : ℕ) (e : n ≡ beginning_of (x ∷ w) s) where

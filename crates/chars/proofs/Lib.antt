@@ -1,6 +1,5 @@
 pub mod Cases
 pub mod Table
-pub mod Ranged
 pub mod Classes
 pub mod Beginnings
 pub mod Scans

@@ -12,13 +12,13 @@ module _ (s : List ℕ) (a : ℕ) where
   part_past n h = rw (drop_of_length-le s h, take-nil n)
 
   -- a part that ends at or after the text's end is the rest of the text
-  pub part_rest : (e : ℕ) → length s ≤ e → take (e - a) (drop a s) ≡ drop a s
+  part_rest : (e : ℕ) → length s ≤ e → take (e - a) (drop a s) ≡ drop a s
   part_rest e h = take_all (e - a) (drop a s) (omega (arith, length-drop a s))
 
   pub take_rest : take (length s - a) (drop a s) ≡ drop a s
   take_rest = part_rest (length s) (omega arith)
 
-  -- the ways of `part`
+  -- a part that ends before it starts, and one that ends after the text
   pub part_none : (e : ℕ) → e ≤ a → [] ≡ take (e - a) (drop a s)
   part_none e h = let z : e - a ≡ 0 = omega arith in rw z
 

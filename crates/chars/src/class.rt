@@ -1,5 +1,5 @@
 // The class of each byte, from one table, and runs of bytes of neighbouring classes.
-ghost use Rattle.std.specs.Prelude.{◌<◌};
+ghost use Rattle.std.specs.Prelude.{◌≡◌};
 ghost use Rattle.chars.specs.Class.{Classed, Counted, between};
 
 // The numbers go so that letters and digits, the bytes of a word, are the classes from DIGIT up.
@@ -32,74 +32,37 @@ pub fn class_of(b: u8) -> u8
     CLASSES[i]
 }
 
-// The same by the ranges of bytes, those of small letters first: the longest runs are theirs.
+// The same by the ranges of bytes. Small letters and digits, whose runs are the longest, are tested by themselves: in the `match` a letter
+// would cost 29 instructions of a run and not 12.
+#[tactic(auto, unfolding(crate::specs::Class::class_of))]
 pub fn class_by_ranges(b: u8) -> u8
     ensures { Classed b result }
 {
-    if b'z' < b {
-        return OTHER;
-    }
-    if b'a' <= b {
+    if b.is_ascii_lowercase() {
         return LETTER;
     }
-    if b < b'0' {
-        return low_class_by_ranges(b);
-    }
-    if b <= b'9' {
+    if b.is_ascii_digit() {
         return DIGIT;
     }
-    if b < b'A' {
-        return OTHER;
+    match b {
+        b'A'..=b'Z' => LETTER,
+        b'.' | b'_' | b'-' => SEPARATOR,
+        b' ' | b'\t' | b'\n' | 12 | b'\r' => BLANK,
+        _ => OTHER,
     }
-    if b <= b'Z' {
-        return LETTER;
-    }
-    if b == b'_' {
-        return SEPARATOR;
-    }
-    OTHER
 }
 
-// Of the bytes below the digits.
-fn low_class_by_ranges(b: u8) -> u8
-    requires { b < 48 }
-    ensures { Classed b result }
+// Whether the class of b lies from low to high.
+#[tactic(auto, unfolding(crate::specs::Class::between))]
+fn is_between(b: u8, low: u8, high: u8) -> bool
+    ensures { result ≡ between low high b }
 {
-    if b == b' ' {
-        return BLANK;
-    }
-    if b == b'.' {
-        return SEPARATOR;
-    }
-    if b == b'-' {
-        return SEPARATOR;
-    }
-    if 13 < b {
-        return OTHER;
-    }
-    if b < 9 {
-        return OTHER;
-    }
-    if b == 11 {
-        return OTHER;
-    }
-    BLANK
+    (low..=high).contains(&class_by_ranges(b))
 }
 
 // How many bytes at the front of s have a class from low to high.
 pub fn run(s: &[u8], low: u8, high: u8) -> usize
     ensures { Counted (between low high) s.now result }
 {
-    let mut i = 0;
-    while i < s.len() {
-        let class = class_by_ranges(s[i]);
-        if class < low {
-            return i;
-        }
-        if high < class {
-            return i;
-        }
-        i += 1;
-    }
-    i
+    s.iter().take_while(|b| is_between(**b, low, high)).count()
 }

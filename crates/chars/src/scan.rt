@@ -5,12 +5,8 @@ ghost use Rattle.chars.specs.Scan.{FoundFrom};
 pub fn find(s: &[u8], from: usize, b: u8) -> usize
     ensures { FoundFrom s.now from b result }
 {
-    let mut at = from;
-    while at < s.len() {
-        if s[at] == b {
-            return at;
-        }
-        at += 1;
+    match s.get(from..) {
+        Some(rest) => from + rest.iter().take_while(|x| **x != b).count(),
+        None => from,
     }
-    at
 }

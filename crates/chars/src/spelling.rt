@@ -4,7 +4,6 @@ ghost use Rattle.chars.specs.Words.{WordFound, first_in, words_in};
 ghost use Rattle.chars.specs.Spelling.{Spelled, PreSpelled, pre_kind_of, pre_spelling, spelling_of, post_spelling, dev_spelling};
 
 use crate::case::beginning;
-use crate::scan::find;
 
 #[derive(Clone, Copy)]
 pub enum PreKind {
@@ -13,49 +12,21 @@ pub enum PreKind {
     Rc,
 }
 
-// A pre-release's spelling at the front of a text: its kind and its length.
-#[derive(Clone, Copy)]
-pub enum PreSpelling {
-    Found(PreKind, usize),
-    Missing,
-}
-
-// Another part's spelling, by its length.
-#[derive(Clone, Copy)]
-pub enum Spelling {
-    Found(usize),
-    Missing,
-}
-
-// Which of several words a text begins with, counted from 0, and how many bytes it has.
-#[derive(Clone, Copy)]
-pub enum WordAt {
-    Found(usize, usize),
-    Missing,
-}
-
 // The first word of `words` that `rest` begins with, in either case. One blank stands between two words.
-fn first_word(words: &[u8], rest: &[u8]) -> WordAt
+fn first_word(words: &[u8], rest: &[u8]) -> Option<(usize, usize)>
     ensures { WordFound rest.now (first_in 0 (words_in words.now) rest.now) result }
 {
-    let mut at = 0;
-    let mut which = 0usize;
-    while at < words.len() {
-        let end = find(words, at, b' ');
-        let len = beginning(rest, &words[at..end]);
-        if len != 0 {
-            return WordAt::Found(which, len);
-        }
-        if end == words.len() {
-            return WordAt::Missing;
-        }
-        at = end + 1;
-        which += 1;
+    let lens = words
+        .split(|b| *b == b' ')
+        .map(|word| beginning(rest, word));
+    match lens.enumerate().find(|(_, len)| *len != 0) {
+        Some((which, len)) => Some((which, len)),
+        None => None,
     }
-    WordAt::Missing
 }
 
 // The kind that the pre-release spelling number `which` says.
+#[tactic(auto, unfolding(crate::specs::Spelling::pre_kind_of))]
 fn pre_kind(which: usize) -> PreKind
     ensures { result ≡ pre_kind_of which }
 {
@@ -72,32 +43,35 @@ fn pre_kind(which: usize) -> PreKind
 }
 
 // 'preview' and the long names come before their own beginnings, which would hide them.
-pub fn pre_spelling(rest: &[u8]) -> PreSpelling
+#[tactic(auto, using(crate::proofs::Spellings::pre_found, crate::proofs::Spellings::pre_missing))]
+pub fn pre_spelling(rest: &[u8]) -> Option<(PreKind, usize)>
     ensures { PreSpelled rest.now (pre_spelling rest.now) result }
 {
     match first_word(b"alpha beta preview pre rc a b c", rest) {
-        WordAt::Found(which, len) => PreSpelling::Found(pre_kind(which), len),
-        WordAt::Missing => PreSpelling::Missing,
+        Some((which, len)) => Some((pre_kind(which), len)),
+        None => None,
     }
 }
 
 // The first of `words` as a spelling that has no kinds.
-fn spelling_of(words: &[u8], rest: &[u8]) -> Spelling
+fn spelling_of(words: &[u8], rest: &[u8]) -> Option<usize>
     ensures { Spelled rest.now (spelling_of (first_in 0 (words_in words.now) rest.now)) result }
 {
     match first_word(words, rest) {
-        WordAt::Found(_, len) => Spelling::Found(len),
-        WordAt::Missing => Spelling::Missing,
+        Some((_, len)) => Some(len),
+        None => None,
     }
 }
 
-pub fn post_spelling(rest: &[u8]) -> Spelling
+#[tactic(auto, using(crate::proofs::Spellings::post_spelled))]
+pub fn post_spelling(rest: &[u8]) -> Option<usize>
     ensures { Spelled rest.now (post_spelling rest.now) result }
 {
     spelling_of(b"post rev r", rest)
 }
 
-pub fn dev_spelling(rest: &[u8]) -> Spelling
+#[tactic(auto, using(crate::proofs::Spellings::dev_spelled))]
+pub fn dev_spelling(rest: &[u8]) -> Option<usize>
     ensures { Spelled rest.now (dev_spelling rest.now) result }
 {
     spelling_of(b"dev", rest)

@@ -1,5 +1,6 @@
 -- Laws of `Wrote`: writers in a row are one writer of their texts in a row, with no room to show.
 -- Assumes nothing.
+use Rattle.std.specs.Prelude.{Ok, Err}
 use mathlib.Core.Path.{◌≡◌, refl, sym, ap, ◌∙◌, subst}
 use mathlib.Core.Bool.{Bool, true, false}
 use mathlib.Core.List.{List, [], ◌∷◌, ◌++◌}
@@ -10,7 +11,6 @@ use lib.Dec.{leb, ltb}
 use lib.ListN.{length, length-append, set}
 use lib.Seq.{sets, length-sets, sets-eq, set_out}
 use borrow.Author.Tests.{leb-true, leb-false, lt-ltb, le-ltb}
-use Rattle.answers.specs.declared.Measured.TheVariants.{Length, Refused}
 use Rattle.answers.specs.Refusal.{refusal}
 use Rattle.answers.specs.Printed.{answer, filled, Printed}
 use Rattle.decimal.specs.Digits.{decimal}
@@ -84,13 +84,13 @@ module _ (most : ℕ) (text none none' : List ℕ) (need : ℕ) (dry : Put most 
   pub whole : need ≡ length text
   whole = omega (arith, dry.wrote.moved, dry.near)
 
-  pub short : (buf : List ℕ) → length buf < need → Printed text buf buf (Refused (refusal 11 need))
+  pub short : (buf : List ℕ) → length buf < need → Printed text buf buf (Err (refusal 11 need))
   unfolding answer filled
   short buf h =
       let l : ltb (length buf) (length text) ≡ true = lt-ltb (length buf) (length text) (omega (arith, whole)) in
       record { answers = rw (l, whole); leaves = rw l }
 
-  pub printed : (buf new : List ℕ) (r : ℕ) → Put most buf 0 text new r → need ≤ length buf → Printed text buf new (Length r)
+  pub printed : (buf new : List ℕ) (r : ℕ) → Put most buf 0 text new r → need ≤ length buf → Printed text buf new (Ok r)
   unfolding answer filled
   printed buf new r p h =
       let l : ltb (length buf) (length text) ≡ false = le-ltb (length buf) (length text) (omega (arith, whole)) in

@@ -1,11 +1,9 @@
 -- The number that decimal digits write, and the number at the front of a text.
-use Rattle.std.specs.Prelude.{◌≡◌, Bool, cond, List, [], ◌∷◌, ℕ, ◌+◌, ◌-◌, ◌*◌, ◌^◌, ◌≤◌, ltb, eqb, length, take}
+use Rattle.std.specs.Prelude.{◌≡◌, Bool, cond, List, [], ◌∷◌, ℕ, ◌+◌, ◌-◌, ◌*◌, ◌^◌, ◌≤◌, ltb, eqb, length, take, Result, Ok, Err, Option, None, Some}
 use Prim.Native.Char.{code}
 use Rattle.chars.specs.Class.{is_digit, digit, between, front}
-use Rattle.decimal.specs.declared.parse.Number.{Number}
-use Rattle.decimal.specs.declared.parse.Number.TheVariants.{Value, TooBig}
-use Rattle.decimal.specs.declared.parse.Leading.{Leading}
-use Rattle.decimal.specs.declared.parse.Leading.TheVariants.{Absent, Read, TooBig as LeadingTooBig}
+use Rattle.decimal.specs.declared.parse.NumberError.{NumberError}
+use Rattle.decimal.specs.declared.parse.NumberError.TheVariants.{TooBig}
 
 -- the largest number
 abbrev pub largest : ℕ
@@ -24,33 +22,37 @@ unfoldable pub value_from : ℕ → List ℕ → ℕ
 value_from v [] = v
 value_from v (b ∷ s) = value_from (v * 10 + digit_of b) s
 
+-- the number at the front of a text: none, or its value and how many digits it has
+abbrev pub Leading : Type 0
+Leading = Result (Option (ℕ × ℕ)) NumberError
+
 -- no digit at all writes 0
-unfoldable pub number_of : List ℕ → Number
-number_of s = cond (ltb (value_from 0 s) (2 ^ 64)) (Value (value_from 0 s)) TooBig
+unfoldable pub number_of : List ℕ → Result ℕ NumberError
+number_of s = cond (ltb (value_from 0 s) (2 ^ 64)) (Ok (value_from 0 s)) (Err TooBig)
 
 -- how many digits stand at the front
 abbrev pub digits_of : List ℕ → ℕ
 digits_of s = front (between digit digit) s
 
-abbrev pub sized : ℕ → Number → Leading
-sized len (Value n) = Read n len
-sized len TooBig = LeadingTooBig
+abbrev pub sized : ℕ → Result ℕ NumberError → Leading
+sized len (Ok n) = Ok (Some (n, len))
+sized len (Err e) = Err e
 
 abbrev pub is_zero : ℕ → Bool
 is_zero b = eqb b (code "0")
 
 -- a number of that many digits with its value; none where there is no digit
-abbrev pub counted : ℕ → ℕ → Leading
-counted value count = cond (eqb count 0) Absent (Read value count)
+abbrev pub counted : ℕ → ℕ → Option (ℕ × ℕ)
+counted value count = cond (eqb count 0) None (Some (value, count))
 
 unfoldable pub leading_of : List ℕ → Leading
-leading_of s = cond (eqb (digits_of s) 0) Absent (sized (digits_of s) (number_of (take (digits_of s) s)))
+leading_of s = cond (eqb (digits_of s) 0) (Ok None) (sized (digits_of s) (number_of (take (digits_of s) s)))
 
 -- how many bytes the number takes
 abbrev pub leading_length : Leading → ℕ
-leading_length Absent = 0
-leading_length (Read n len) = len
-leading_length LeadingTooBig = 0
+leading_length (Ok None) = 0
+leading_length (Ok (Some (n, len))) = len
+leading_length (Err e) = 0
 
 pub record Led (s : List ℕ) (r : Leading) : Type 0 where
   pub is : r ≡ leading_of s

@@ -12,30 +12,22 @@ pub fn put_byte(buf: &mut [u8], at: usize, b: u8) -> usize
         buf[at] = b;
         return at + 1;
     }
-    if at == usize::MAX {
-        return at;
-    }
-    at + 1
+    at.saturating_add(1)
 }
 
 // The place n bytes after `at`.
 pub fn further(at: usize, n: usize) -> usize
     ensures { Further at n result }
 {
-    if usize::MAX - at < n {
-        return usize::MAX;
-    }
-    at + n
+    at.saturating_add(n)
 }
 
 pub fn put_bytes(buf: &mut [u8], at: usize, s: &[u8]) -> usize
     ensures { Put (length s.now) buf.old at s.now buf.new result }
 {
     let mut next = at;
-    let mut i = 0;
-    while i < s.len() {
-        next = put_byte(buf, next, s[i]);
-        i += 1;
+    for b in s {
+        next = put_byte(buf, next, *b);
     }
     next
 }

@@ -1,11 +1,12 @@
 -- Answer lines: what is put, part by part, and that each finds room.
 -- Assumes nothing.
+use Rattle.answers.specs.declared.RefusedInput.{RefusedInput}
+use Rattle.std.specs.Prelude.{Result, Ok}
 use mathlib.Core.Path.{◌≡◌, sym, ◌∙◌}
 use mathlib.Core.List.{List, [], ◌∷◌, ◌++◌}
-use Prim.Native.Nat.{ℕ, ◌≤◌, ◌<◌}
+use Prim.Native.Nat.{ℕ, ◌<◌}
 use native.Mathlib.Omega.{arith}
 use lib.ListN.{length-append}
-use Rattle.answers.specs.declared.Refusal.{Refusal}
 use Rattle.chars.specs.Text.{ascii}
 use Rattle.decimal.specs.Digits.{decimal}
 use Rattle.decimal.specs.Put.{Wrote, Put}
@@ -16,12 +17,10 @@ use Rattle.version_normal.specs.Normal.{normal_text}
 use Rattle.version_roundtrip.proofs.Roundtrip.{normal_longest}
 use Rattle.register_entries.specs.declared.entry.Entry.{Entry}
 use Rattle.register_rules.specs.declared.lowest.Lowest.{Lowest}
-use Rattle.register_rules.specs.declared.lowest.Lowest.TheVariants.{Nothing, One, Two}
-use Rattle.register_rules.specs.declared.fit.Fit.{Fit}
-use Rattle.register_rules.specs.declared.fit.Fit.TheVariants.{By, Register, Version}
+use Rattle.register_rules.specs.declared.lowest.Lowest.TheVariants.{Two}
 use Rattle.register_rules.proofs.Exactly.{by_accepted}
 use Rattle.register_rules.specs.Fit.{fit_of}
-use Rattle.answer_lines.specs.Text.{refusal_line, normal_line}
+use Rattle.answer_lines.specs.Text.{normal_line}
 use Rattle.fits.specs.Answer.{several_text, lowest_text, fit_line, longest_answer}
 
 -- an identifier has at most five digits
@@ -32,20 +31,14 @@ pub four_put : (s t u v : List ℕ) {a b c d e : List ℕ} {i j k l m : ℕ} →
     Wrote a i (s ++ t ++ u ++ v) e m
 four_put s t u v p q r w = then (then (then p q) r) w
 
--- the ways of `put_lowest`
+-- two identifiers
 module _ {a b : List ℕ} {i j : ℕ} (lowest : Lowest) where
-  pub lowest_none : lowest ≡ Nothing → Put 4 a i (ascii "none") b j → Put 19 a i (lowest_text lowest) b j
-  lowest_none e p = record { wrote = rw e p.wrote; near = omega (arith, p.near) }
-
-  pub lowest_one : (id : ℕ) → lowest ≡ One id → Put 5 a i (decimal id) b j → Put 19 a i (lowest_text lowest) b j
-  lowest_one id e p = record { wrote = rw e p.wrote; near = omega (arith, p.near) }
-
   pub lowest_two : (first second : ℕ) → lowest ≡ Two first second → Put 19 a i (several_text first second) b j → Put 19 a i (lowest_text lowest) b j
   lowest_two first second e p = rw e p
 
-module _ (es : List Entry) (tables version : List ℕ) {fit : Fit} (e : fit ≡ fit_of es tables version) where
+module _ (es : List Entry) (tables version : List ℕ) {fit : Result Lowest RefusedInput} (e : fit ≡ fit_of es tables version) where
   module _ {at next : ℕ} {old new : List ℕ} where
-    pub fit_by : (lowest : Lowest) {name most : ℕ} {middle : List ℕ} → fit ≡ By lowest → Put 19 old at (lowest_text lowest) middle name →
+    pub fit_by : (lowest : Lowest) {name most : ℕ} {middle : List ℕ} → fit ≡ Ok lowest → Put 19 old at (lowest_text lowest) middle name →
         Put most middle name (normal_line (ascii " ") version) new next → Put longest_answer old at (fit_line (fit_of es tables version) version) new next
     fit_by lowest f p q =
         let accepted = by_accepted es tables version lowest (sym e ∙ f) in
@@ -61,12 +54,3 @@ module _ (es : List Entry) (tables version : List ℕ) {fit : Fit} (e : fit ≡ 
                 length-append (ascii " " ++ normal_text version) (line_feed ∷ []),
               );
         }
-
-    module _ (x : Refusal) {most : ℕ} (few : most ≤ longest_answer) where
-      pub fit_register : fit ≡ Register x → Put most old at (refusal_line (ascii "register refused ") x) new next →
-          Put longest_answer old at (fit_line (fit_of es tables version) version) new next
-      fit_register f p = record { wrote = rw (← e, f) p.wrote; near = omega (arith, p.near, few) }
-
-      pub fit_version : fit ≡ Version x → Put most old at (refusal_line (ascii "refused ") x) new next →
-          Put longest_answer old at (fit_line (fit_of es tables version) version) new next
-      fit_version f p = record { wrote = rw (← e, f) p.wrote; near = omega (arith, p.near, few) }

@@ -1,6 +1,8 @@
 -- Whatever the reads bring at a time, the answers are those to the lines of the input: a version that is told in part is too long, and all such
 -- have one answer. A register's line of up to 65,536 bytes is told whole.
 -- Assumes nothing.
+use Rattle.answers.specs.declared.RefusedInput.TheVariants.{Second}
+use Rattle.std.specs.Prelude.{Err}
 use mathlib.Core.Path.{◌≡◌, refl, ap}
 use mathlib.Core.Logic.{inl, inr}
 use mathlib.Core.List.{List, [], ◌∷◌, map}
@@ -14,7 +16,6 @@ use Rattle.version_reading.specs.Reading.{longest}
 use Rattle.version.specs.Refusals.{Row}
 use Rattle.version.proofs.Exactly.{version_refused_exactly}
 use Rattle.register_entries.specs.declared.entry.Entry.{Entry}
-use Rattle.register_rules.specs.declared.fit.Fit.TheVariants.{Version}
 use Rattle.register_rules.specs.Fit.{fit_of}
 use Rattle.register_rules.specs.Cases.{Sound}
 use Rattle.register_rules.proofs.Answers.{refused_in_its_case}
@@ -31,7 +32,7 @@ module _ (es : List Entry) (tables : List ℕ) where
   line_for version = fit_line (fit_of es tables version) version
 
   -- versions that are too long have one answer: the register's refusal, or their own
-  own : (version : List ℕ) → longest < length version → Sound es tables → fit_of es tables version ≡ Version (refusal 8 longest)
+  own : (version : List ℕ) → longest < length version → Sound es tables → fit_of es tables version ≡ Err (Second (refusal 8 longest))
   own version long sound = (of_version es tables version (refusal 8 longest)).1 (sound, (version_refused_exactly version 8 longest).1 (Row.too_long long))
 
   long_answer : (v w : List ℕ) → longest < length v → longest < length w → line_for v ≡ line_for w

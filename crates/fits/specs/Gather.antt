@@ -1,10 +1,8 @@
 -- What gathering a register from lines comes to.
-use Rattle.std.specs.Prelude.{◌≡◌, List, ℕ, suc, length}
+use Rattle.std.specs.Prelude.{◌≡◌, List, Option, Some, None, Result, Ok, Err, ℕ, suc, length}
 use Rattle.register_lines.specs.declared.shelf.Shelf.{Shelf}
 use Rattle.register_lines.specs.Shelved.{Shelved, refusal_behind}
-use Rattle.fits.specs.declared.gather.Ending.{Ending}
-use Rattle.fits.specs.declared.gather.Ending.TheVariants.{Versions, Refused, Nothing}
-use Rattle.fits.specs.declared.gather.Gathered.{Gathered}
+use Rattle.fits.specs.declared.gather.RefusedLine.{RefusedLine}
 
 -- the shelf that these lines make, entered one after the other
 pub record Standing (tables : List ℕ) (shelf : Shelf) (count : ℕ) : Type 0 where
@@ -12,13 +10,14 @@ pub record Standing (tables : List ℕ) (shelf : Shelf) (count : ℕ) : Type 0 w
   pub shelved : Shelved lines tables shelf
   pub counted : count ≡ length lines
 
--- a line that is refused is the next one, and refused by its own rule
-abbrev pub EndedBehind : List (List ℕ) → Ending → Type 0
-EndedBehind lines (Versions window) = Unit {0}
-EndedBehind lines (Refused k x) = (line : List ℕ) × ((k ≡ suc (length lines)) × (x ≡ refusal_behind lines line))
-EndedBehind lines Nothing = Unit {0}
+-- the shelf before the versions is that of the lines; a line that is refused is the next one, and refused by its own rule
+abbrev pub EndedBehind : List (List ℕ) → Shelf → Result (Option Shelf) RefusedLine → Type 0
+EndedBehind lines shelf (Ok (Some s)) = s ≡ shelf
+EndedBehind lines shelf (Ok None) = Unit {0}
+EndedBehind lines shelf (Err x) = (line : List ℕ) × ((x.number ≡ suc (length lines)) × (x.refusal ≡ refusal_behind lines line))
 
-pub record Gathering (tables : List ℕ) (r : Gathered) : Type 0 where
+pub record Gathering (tables : List ℕ) (r : Result (Option Shelf) RefusedLine) : Type 0 where
   pub lines : List (List ℕ)
-  pub shelved : Shelved lines tables r.shelf
-  pub ended : EndedBehind lines r.ending
+  pub shelf : Shelf
+  pub shelved : Shelved lines tables shelf
+  pub ended : EndedBehind lines shelf r

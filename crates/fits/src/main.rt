@@ -4,16 +4,12 @@
 mod answer;
 mod gather;
 
-ghost use Rattle.std.specs.Prelude.{◌≡◌, ◌≤◌, length};
-ghost use Rattle.fits.specs.Answer.{longest_answer};
+ghost use Rattle.std.specs.Prelude.{◌≡◌, length};
 
 use answer::{LONGEST_ANSWER, put_entry_refusal, put_fit};
-use answer_lines::room::{Room, make_room};
-use answers::Refusal;
-use chars::place::part;
-use gather::{Ending, LONGEST_LINE, gather};
-use lines::input::next_line;
-use lines::window::{Found, Window};
+use answer_lines::line::Line;
+use gather::{LONGEST_LINE, RefusedLine, gather};
+use lines::source::Lines;
 use register_entries::held::Held;
 use std::io::{Read, Write};
 
@@ -29,69 +25,40 @@ fn main(rt: HostRuntime) {
     let mut output = rt.stdout();
     let mut buffer = lines::input::buffer();
     let mut tables = tables_room();
-    let gathered = gather(&mut input, &mut buffer, &mut tables);
-    let shelf = gathered.shelf;
-    let ending = gathered.ending;
-    match ending {
-        Ending::Versions(window) => answer_versions(
-            &mut input,
-            &mut output,
-            &mut buffer,
-            window,
-            shelf.held,
-            &tables,
-        ),
-        Ending::Refused(k, refusal) => refuse_entry(&mut output, k, refusal),
-        Ending::Nothing => {}
+    let mut lines = Lines::new(&mut input, &mut buffer, LONGEST_LINE);
+    match gather(&mut lines, &mut tables) {
+        Ok(Some(shelf)) => answer_versions(&mut lines, &mut output, shelf.held, &tables),
+        Ok(None) => {}
+        Err(refused) => refuse_entry(&mut output, refused),
     }
 }
 
-fn refuse_entry<W: Write>(output: &mut W, k: usize, refusal: Refusal) {
+fn refuse_entry<W: Write>(output: &mut W, refused: RefusedLine) {
     let mut out = [0u8; 128];
-    let end = put_entry_refusal(&mut out, 0, k, refusal);
+    let mut line = Line::new(&mut out);
+    put_entry_refusal(&mut line, refused.number, refused.refusal);
     // Nobody is left to be told of a write that fails.
-    let _ = output.write_all(part(&out, 0, end));
+    let _ = output.write_all(line.so_far());
 }
 
+// Gathers the answers and writes them whenever the next might find no room.
 fn answer_versions<R: Read, W: Write>(
-    input: &mut R,
+    lines: &mut Lines<'_, R>,
     output: &mut W,
-    buffer: &mut [u8],
-    first: Window,
     held: Held,
     tables: &[u8],
 ) {
     let mut out = [0u8; 65536];
-    let end = answer_each(input, output, buffer, first, held, tables, &mut out);
-    let _ = output.write_all(part(&out, 0, end));
-}
-
-// Gathers the answers and writes them whenever the next might find no room. Says where those end that are not written yet.
-fn answer_each<R: Read, W: Write>(
-    input: &mut R,
-    output: &mut W,
-    buffer: &mut [u8],
-    first: Window,
-    held: Held,
-    tables: &[u8],
-    out: &mut [u8],
-) -> usize
-    requires { longest_answer ≤ length out.old }
-{
-    let mut end = 0;
-    let mut window = first;
+    let mut answers = Line::new(&mut out);
     // A proved loop has to end, and nothing says that the input does: no run uses this count up.
     for _ in 0..u64::MAX {
-        let next = next_line(input, buffer, window, LONGEST_LINE);
-        let found = next.found;
-        let Found::Line(from, to) = found else {
-            return end;
+        let Some(version) = lines.next() else {
+            break;
         };
-        let Room::At(at) = make_room(output, out, end, LONGEST_ANSWER) else {
-            return 0;
-        };
-        end = put_fit(out, at, held, tables, part(buffer, from, to));
-        window = next.window;
+        if !answers.make_room(output, LONGEST_ANSWER) {
+            return;
+        }
+        put_fit(&mut answers, held, tables, version);
     }
-    end
+    let _ = output.write_all(answers.so_far());
 }

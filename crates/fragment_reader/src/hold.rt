@@ -5,7 +5,7 @@ ghost use Rattle.fragment_reader.specs.Hold.{Holds, reader_by};
 use answers::Refusal;
 use chars::place::part;
 use decimal::put::put_bytes;
-use fragment_rules::answer::{Answer, Says};
+use fragment_rules::answer::Answer;
 use version_parts::fields::Version;
 use version_reading::text::Verdict;
 
@@ -32,21 +32,20 @@ pub(crate) fn say(held: &[u8], count: usize, ended: bool) -> Answer
             place: 1024,
         };
         return Answer {
-            says: Says::Given(Verdict::Refused(refusal)),
+            says: Some(Verdict::Refused(refusal)),
             version: Version::none(),
         };
     }
     if ended {
         let read = version::read(part(held, 0, count));
         let verdict = read.verdict;
-        let version = read.version;
         return Answer {
-            says: Says::Given(verdict),
-            version,
+            says: Some(verdict),
+            version: read.version,
         };
     }
     Answer {
-        says: Says::Nothing,
+        says: None,
         version: Version::none(),
     }
 }

@@ -1,5 +1,6 @@
 -- Worked points: what is said after some events, and what lent bytes show. They anchor the definitions against changes that would keep every law.
 -- Assumes nothing.
+use Rattle.std.specs.Prelude.{None, Some}
 use mathlib.Core.Path.{◌≡◌, refl}
 use mathlib.Core.List.{List, [], ◌∷◌, ◌++◌, map}
 use Prim.Native.Nat.{ℕ}
@@ -19,7 +20,6 @@ use Rattle.version_parts.specs.Fields.{no_version}
 use Rattle.version_reading.specs.declared.text.Verdict.TheVariants.{Accepted, Refused}
 use Rattle.version_reading.specs.Label.{word_end, segments_from, label_at}
 use Rattle.version_reading.specs.Reading.{after_release, after_suffix, pattern_as, version_of}
-use Rattle.fragment_rules.specs.declared.answer.Says.TheVariants.{Nothing, Given}
 use Rattle.fragment_rules.specs.declared.answer.Answer.{Answer}
 use Rattle.fragment_rules.specs.Reader.{fresh, taken, given, said_by}
 use Rattle.fragment_rules.specs.Events.{Event, lump, end, reset, run_from}
@@ -48,7 +48,7 @@ unfinished =
     ∷ (text "4.2" ∷ end ∷ reset ∷ [])
     ∷ []
 
-pub nothing_said : map (λ es. (after es).says) unfinished ≡ replicate 5 Nothing
+pub nothing_said : map (λ es. (after es).says) unfinished ≡ replicate 5 None
 unfolding everything
 nothing_said = refl
 
@@ -56,7 +56,7 @@ nothing_said = refl
 abbrev full : List ℕ
 full = ascii "1" ++ replicate 1023 (code " ")
 
-pub full_unsaid : (after (lump full ∷ [])).says ≡ Nothing
+pub full_unsaid : (after (lump full ∷ [])).says ≡ None
 unfolding everything
 full_unsaid = refl
 
@@ -72,7 +72,7 @@ abbrev reads : String → Answer
 reads s = given (version_of (ascii s))
 
 abbrev refused : Answer
-refused = record { says = Given (Refused (refusal 8 1024)); version = no_version }
+refused = record { says = Some (Refused (refusal 8 1024)); version = no_version }
 
 -- the whole text at the end mark, and nothing from after it or from before a reset; the 1,025th byte is refused at once
 abbrev finished : List Point
@@ -92,7 +92,7 @@ pub finished_hold : map (λ p. after p.events) finished ≡ map (λ p. p.answer)
 unfolding everything
 finished_hold = refl
 
-pub one_accepted : (reads "1").says ≡ Given Accepted
+pub one_accepted : (reads "1").says ≡ Some Accepted
 unfolding everything
 one_accepted = refl
 

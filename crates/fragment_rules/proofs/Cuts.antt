@@ -1,5 +1,6 @@
 -- A text in lumps: wherever it is cut, the same is said of it, and before the end mark nothing, unless it is too long.
 -- Assumes nothing.
+use Rattle.std.specs.Prelude.{None, Some}
 use mathlib.Core.Path.{◌≡◌, refl, sym, ◌∙◌, ap}
 use mathlib.Core.Logic.{◌↔◌}
 use mathlib.Core.Bool.{Bool, true, false, cond}
@@ -10,7 +11,6 @@ use borrow.Author.Tests.{lt-ltb, le-ltb}
 use Rattle.version_reading.specs.declared.text.Verdict.{Verdict}
 use Rattle.version_reading.specs.declared.text.VersionReading.{VersionReading}
 use Rattle.version_reading.specs.Reading.{longest, version_of}
-use Rattle.fragment_rules.specs.declared.answer.Says.TheVariants.{Nothing, Given}
 use Rattle.fragment_rules.specs.declared.answer.Answer.{Answer}
 use Rattle.fragment_rules.specs.declared.reader.Reader.{Reader}
 use Rattle.fragment_rules.specs.Reader.{fresh, marked, overfull, settled, given, nothing, too_long, said_by}
@@ -57,8 +57,8 @@ unfolding due
 at_once ls h = said_lumps ls ∙ rw (lt-ltb longest (length (joined_up ls)) h)
 
 -- nothing is said exactly as long as there is no verdict
-some_said : (a : Answer) (v : Verdict) → a.says ≡ Given v → a ≡ nothing → true ≡ false
-some_said a v e h = let z : a.says ≡ Nothing = ap (λ (a : Answer). a.says) h in cc
+some_said : (a : Answer) (v : Verdict) → a.says ≡ Some v → a ≡ nothing → true ≡ false
+some_said a v e h = let z : a.says ≡ None = ap (λ (a : Answer). a.says) h in cc
 
 said_if : (x : VersionReading) (long ended : Bool) → (cond long too_long (cond ended (given x) nothing) ≡ nothing) ↔ (cond long true ended ≡ false)
 said_if x true ended = (some_said too_long _ refl, λ e. cc)

@@ -1,13 +1,12 @@
 -- A reader of a text that comes in lumps: what each event makes of it, and what it says.
-use Rattle.std.specs.Prelude.{◌≡◌, Bool, true, false, cond, List, ℕ, ◌+◌, ◌≤◌, min, ltb, length, take, replicate}
+use Rattle.version_reading.specs.declared.text.Verdict.{Verdict}
+use Rattle.std.specs.Prelude.{◌≡◌, Bool, true, false, cond, List, ℕ, ◌+◌, ◌≤◌, min, ltb, length, take, replicate, Option, None, Some}
 use Rattle.std.proofs.lemmas.List.Edits.{sets}
 use Rattle.answers.specs.Refusal.{refusal}
 use Rattle.version_parts.specs.Fields.{no_version}
 use Rattle.version_reading.specs.declared.text.Verdict.TheVariants.{Refused}
 use Rattle.version_reading.specs.declared.text.VersionReading.{VersionReading}
 use Rattle.version_reading.specs.Reading.{longest, place_of, version_of}
-use Rattle.fragment_rules.specs.declared.answer.Says.{Says}
-use Rattle.fragment_rules.specs.declared.answer.Says.TheVariants.{Nothing, Given}
 use Rattle.fragment_rules.specs.declared.answer.Answer.{Answer}
 use Rattle.fragment_rules.specs.declared.reader.Reader.{Reader}
 
@@ -45,21 +44,21 @@ settled r = cond (overfull r) true r.ended
 
 -- what was read, as an answer
 abbrev pub given : VersionReading → Answer
-given r = record { says = Given r.verdict; version = r.version }
+given r = record { says = Some r.verdict; version = r.version }
 
 abbrev pub nothing : Answer
-nothing = record { says = Nothing; version = no_version }
+nothing = record { says = None; version = no_version }
 
 abbrev pub too_long : Answer
-too_long = record { says = Given (Refused (refusal 8 longest)); version = no_version }
+too_long = record { says = Some (Refused (refusal 8 longest)); version = no_version }
 
 unfoldable pub said_by : Reader → Answer
 said_by r = cond (overfull r) too_long (cond r.ended (given (version_of (take r.count r.held))) nothing)
 
 -- the place of a refusal that is said
-abbrev pub place_said : Says → ℕ
-place_said Nothing = 0
-place_said (Given v) = place_of v
+abbrev pub place_said : Option Verdict → ℕ
+place_said None = 0
+place_said (Some v) = place_of v
 
 -- what a caller may count on beside the equation
 pub record Said (spec r : Answer) : Type 0 where

@@ -4,7 +4,7 @@
 mod reader;
 
 ghost use Rattle.std.specs.Prelude.{◌≡◌, false, length};
-ghost use Rattle.version_reading.specs.Reading.{pattern_of, version_of};
+ghost use Rattle.version_reading.specs.Reading.{pattern_as, pattern_of, version_of};
 ghost use Rattle.version_reading.specs.Segment.{segment_text};
 ghost use Rattle.version_normal.specs.Normal.{answer_to, filled_to, normal_text};
 ghost use Rattle.version_order.specs.Compared.{compared};
@@ -27,22 +27,28 @@ use version_reading::plain::read_plain;
 use version_reading::segment::{Segment, segment_bytes, segment_of};
 use version_reading::text::{Verdict, read_by_rules};
 
+// Leaves the fields of a version, which a wildcard may follow if `wildcards` says so; gives the verdict, and whether a wildcard follows.
+fn read_fields(text: &[u8], wildcards: bool, fields: &mut [u64; 89]) -> (Verdict, bool)
+    ensures verdict { result.0 ≡ (pattern_as wildcards text.now).verdict }
+    ensures wildcard { result.1 ≡ (pattern_as wildcards text.now).wildcard }
+    ensures fields_after { fields.new ≡ fields_by (pattern_as wildcards text.now).verdict text.now (pattern_as wildcards text.now).version fields.old }
+{
+    if let Some(plain) = read_plain(text) {
+        put_plain(fields, plain);
+        return (Verdict::Accepted, false);
+    }
+    let read = read_by_rules(text, wildcards);
+    put_accepted(fields, text, read.verdict, read.version);
+    (read.verdict, read.wildcard)
+}
+
 // The fields of a version. A refused text leaves them as they were.
 #[unsafe(no_mangle)]
 pub extern "C" fn knappulf_read(text: &[u8], fields: &mut [u64; 89], answer: &mut [u64; 3]) -> u8
     ensures told { Told (of_verdict (version_of text.now).verdict false) answer.new result }
     ensures fields_after { fields.new ≡ fields_by (version_of text.now).verdict text.now (version_of text.now).version fields.old }
 {
-    let quick = read_plain(text);
-    if quick.found {
-        let plain = quick.plain;
-        put_plain(fields, plain);
-        return tell(of_verdict(Verdict::Accepted, false), answer);
-    }
-    let read = read_by_rules(text, false);
-    let verdict = read.verdict;
-    let version = read.version;
-    put_accepted(fields, text, verdict, version);
+    let (verdict, _) = read_fields(text, false, fields);
     tell(of_verdict(verdict, false), answer)
 }
 
@@ -52,17 +58,8 @@ pub extern "C" fn knappulf_pattern(text: &[u8], fields: &mut [u64; 89], answer: 
     ensures told { Told (of_verdict (pattern_of text.now).verdict (pattern_of text.now).wildcard) answer.new result }
     ensures fields_after { fields.new ≡ fields_by (pattern_of text.now).verdict text.now (pattern_of text.now).version fields.old }
 {
-    let quick = read_plain(text);
-    if quick.found {
-        let plain = quick.plain;
-        put_plain(fields, plain);
-        return tell(of_verdict(Verdict::Accepted, false), answer);
-    }
-    let read = read_by_rules(text, true);
-    let verdict = read.verdict;
-    let version = read.version;
-    put_accepted(fields, text, verdict, version);
-    tell(of_verdict(verdict, read.wildcard), answer)
+    let (verdict, wildcard) = read_fields(text, true, fields);
+    tell(of_verdict(verdict, wildcard), answer)
 }
 
 // How long the text segment with that index is, and where it begins: both 0 for a number, a missing segment or a refused text.
@@ -72,14 +69,12 @@ pub extern "C" fn knappulf_segment(text: &[u8], index: usize, start: &mut u64) -
     ensures start_after { start.new ≡ segment_start text.now index }
 {
     let read = version::read(text);
-    let version = read.version;
-    let local = version.local;
-    let bytes = segment_bytes(text, local, index);
+    let bytes = segment_bytes(text, read.version.local, index);
     let Segment::Text = segment_of(bytes) else {
         *start = 0;
         return 0;
     };
-    let span = span_at(local, index);
+    let span = span_at(read.version.local, index);
     *start = span.start as u64;
     bytes.len()
 }

@@ -46,17 +46,13 @@ pub extern "C" fn knappulf_reader_verdict(
     ensures fields_after { fields.new ≡ fields_said (said_by (reader_in reader.now)).says (text_in reader.now) (said_by (reader_in reader.now)).version fields.old }
 {
     let text = lent::text(reader);
-    let quick = read_plain(text);
-    if quick.found {
-        let plain = quick.plain;
+    if let Some(plain) = read_plain(text) {
         put_plain(fields, plain);
         return tell(of_verdict(Verdict::Accepted, false), answer);
     }
     let said = lent::said(reader);
-    let says = said.says;
-    let version = said.version;
-    put_said(fields, text, says, version);
-    tell(of_says(says), answer)
+    put_said(fields, text, said.says, said.version);
+    tell(of_says(said.says), answer)
 }
 
 // How many bytes of the reader, from its first on, are the text that questions may be asked of.

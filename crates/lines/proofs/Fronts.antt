@@ -1,11 +1,10 @@
 -- The ways of the line at the front of a window.
 -- Assumes nothing.
 use mathlib.Core.Path.{◌≡◌, sym, ap, ◌∙◌}
-use mathlib.Core.Bool.{Bool, true, false, not, not-not}
+use mathlib.Core.Bool.{true, false, not, not-not}
 use mathlib.Core.List.{List}
 use Prim.Native.Nat.{ℕ, ◌+◌, ◌-◌, ◌<◌, ◌≤◌}
 use native.Mathlib.Nat.{zero-add}
-use native.Mathlib.Omega.{arith}
 use lib.ListN.{length, take, drop}
 use borrow.Author.Tests.{lt-ltb, le-ltb}
 use Rattle.chars.specs.Scan.{index_of}
@@ -17,18 +16,6 @@ use Rattle.lines.specs.Window.{line_feed, held, line_length, limit, told, untold
 
 pub line_found : (text : List ℕ) (r : ℕ) → r ≡ 0 + index_of line_feed (drop 0 text) → r ≡ line_length text
 line_found text r e = e ∙ zero-add (index_of line_feed text)
-
--- the ways of `longest_open`
-module _ {done : Bool} (longest size : ℕ) (more : done ≡ false) where
-  pub within_room : longest < size → longest ≡ limit done longest size
-  within_room h = rw more (omega arith)
-
-  module _ (long : size ≤ longest) where
-    pub no_room : size ≡ 0 → 0 ≡ limit done longest size
-    no_room e = rw (more, e) (omega arith)
-
-    pub all_but_one : size - 1 ≡ limit done longest size
-    all_but_one = rw more (omega arith)
 
 pub at_the_end : (w : Window) → w.done ≡ true → record { found = End; window = w } ≡ untold w
 at_the_end w e = rw e

@@ -1,6 +1,5 @@
 pub mod Anchors
 pub mod Fronts
-pub mod Slides
 pub mod Reading
 pub mod Texts
 pub mod Runs

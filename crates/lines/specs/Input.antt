@@ -2,7 +2,7 @@
 use Rattle.std.specs.Prelude.{◌≡◌, List, ◌++◌, ℕ, ◌-◌, ◌≤◌, eqb, length, take, drop}
 use Rattle.lines.specs.declared.window.Window.{Window}
 use Rattle.lines.specs.declared.window.Next.{Next}
-use Rattle.lines.specs.Window.{held, front}
+use Rattle.lines.specs.Window.{held, front, text_of}
 
 -- the part from start to end stands at the front, and all after that is as it was
 pub record Slid (old : List ℕ) (start end : ℕ) (new : List ℕ) (r : ℕ) : Type 0 where
@@ -28,3 +28,10 @@ pub record ReadOn (old : List ℕ) (w : Window) (new : List ℕ) (r : Window) : 
 pub record Told (buffer : List ℕ) (longest : ℕ) (r : Next) : Type 0 where
   pub window : Window
   pub is : r ≡ front buffer window longest
+
+-- a line that was told, of some buffer
+pub record ToldLine (longest : ℕ) (line : List ℕ) : Type 0 where
+  pub buffer : List ℕ
+  pub next : Next
+  pub told : Told buffer longest next
+  pub is : line ≡ text_of buffer next.found

@@ -19,10 +19,8 @@ fn slide(buffer: &mut [u8], start: usize, end: usize) -> usize
     ensures { Slid buffer.old start end buffer.new result }
 {
     let count = part(buffer, start, end).len();
-    let mut i = 0;
-    while i < count {
-        buffer[i] = buffer[start + i];
-        i += 1;
+    if 0 < count {
+        buffer.copy_within(start..start + count, 0);
     }
     count
 }

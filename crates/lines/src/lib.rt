@@ -2,4 +2,5 @@
 #![tactic(auto)]
 
 pub mod input;
+pub mod source;
 pub mod window;

@@ -15,7 +15,8 @@ pub struct Window {
     pub done: bool,
 }
 
-// A line's first place and the place after its last byte; or that more has to be read; or that there is no further line.
+// A line's first place and the place after its last byte; or that more has to be read; or that there is no further line. No Option: the last two
+// are no line for different reasons.
 #[derive(Clone, Copy)]
 pub enum Found {
     Line(usize, usize),
@@ -55,10 +56,7 @@ fn longest_open(done: bool, longest: usize, size: usize) -> usize
     if done {
         return 0;
     }
-    if longest < size {
-        return longest;
-    }
-    if size == 0 { 0 } else { size - 1 }
+    longest.min(size.saturating_sub(1))
 }
 
 // The line of that length at the front, and the window that begins `behind` bytes later.

@@ -1,5 +1,8 @@
 -- Worked points of what lists accept, by computation from the bytes. They anchor the definitions against changes that would keep every law.
 -- Assumes nothing.
+use Rattle.answers.specs.declared.RefusedInput.TheVariants.{First, Second}
+use Rattle.answers.specs.declared.RefusedInput.{RefusedInput}
+use Rattle.std.specs.Prelude.{Result, Bool, Ok, true, false, Err}
 use mathlib.Core.Path.{◌≡◌, refl}
 use mathlib.Core.List.{List, [], ◌∷◌, map}
 use Prim.Native.String.{String}
@@ -17,42 +20,40 @@ use Rattle.version_reading.specs.Reading.{starred, after_release, after_suffix, 
 use Rattle.version_reading.specs.Value.{value_of}
 use Rattle.version_order.specs.Versions.{compare_release, compare_key, compare_public}
 use Rattle.version_prefix.specs.Prefix.{prefix_matches}
-use Rattle.answers.specs.declared.YesNo.{YesNo}
-use Rattle.answers.specs.declared.YesNo.TheVariants.{Yes, No, First as OfList, Second as OfVersion}
 use Rattle.list_clauses.proofs.Computed.{computed_list}
 use Rattle.list_accepting.specs.Accept.{holds, accepted}
 
 record Point : Type 0 where
   list : String
   version : String
-  answer : YesNo
+  answer : Result Bool RefusedInput
 
-abbrev point : String → String → YesNo → Point
+abbrev point : String → String → Result Bool RefusedInput → Point
 point list version answer = record { list = list; version = version; answer = answer }
 
 abbrev points : List Point
 points =
-    point "~=4.2.1" "4.2.9" Yes
-    ∷ point "~=4.2.1" "4.3" No
-    ∷ point "~=4.2.1" "4.2" No
-    ∷ point "==4.0.*" "4" Yes
-    ∷ point "==4.0.*" "1!4" No
-    ∷ point "!=4.0.*" "4.1" Yes
-    ∷ point "==4.3" "4.3.0+b1" Yes
-    ∷ point ">=4.2,!=4.3" "4.2" Yes
-    ∷ point ">=4.2,!=4.3" "4.3.0+b1" No
-    ∷ point "<=4.2" "4.2" Yes
-    ∷ point "<4.2" "4.2" No
-    ∷ point ">4.2" "4.2.post1" Yes
-    ∷ point "" "1" Yes
-    ∷ point " " "x" (OfVersion (refusal 1 0))
-    ∷ point "4.2" "x" (OfList (refusal 13 0))
-    ∷ point " ===4.2" "1" (OfList (refusal 13 1))
-    ∷ point ">1 , " "1" (OfList (refusal 12 4))
-    ∷ point ">1, <2.*" "1" (OfList (refusal 14 5))
-    ∷ point "==1+a" "1" (OfList (refusal 15 2))
-    ∷ point "~=1" "1" (OfList (refusal 16 2))
-    ∷ point ">=1.x" "1" (OfList (refusal 5 3))
+    point "~=4.2.1" "4.2.9" (Ok true)
+    ∷ point "~=4.2.1" "4.3" (Ok false)
+    ∷ point "~=4.2.1" "4.2" (Ok false)
+    ∷ point "==4.0.*" "4" (Ok true)
+    ∷ point "==4.0.*" "1!4" (Ok false)
+    ∷ point "!=4.0.*" "4.1" (Ok true)
+    ∷ point "==4.3" "4.3.0+b1" (Ok true)
+    ∷ point ">=4.2,!=4.3" "4.2" (Ok true)
+    ∷ point ">=4.2,!=4.3" "4.3.0+b1" (Ok false)
+    ∷ point "<=4.2" "4.2" (Ok true)
+    ∷ point "<4.2" "4.2" (Ok false)
+    ∷ point ">4.2" "4.2.post1" (Ok true)
+    ∷ point "" "1" (Ok true)
+    ∷ point " " "x" (Err (Second (refusal 1 0)))
+    ∷ point "4.2" "x" (Err (First (refusal 13 0)))
+    ∷ point " ===4.2" "1" (Err (First (refusal 13 1)))
+    ∷ point ">1 , " "1" (Err (First (refusal 12 4)))
+    ∷ point ">1, <2.*" "1" (Err (First (refusal 14 5)))
+    ∷ point "==1+a" "1" (Err (First (refusal 15 2)))
+    ∷ point "~=1" "1" (Err (First (refusal 16 2)))
+    ∷ point ">=1.x" "1" (Err (First (refusal 5 3)))
     ∷ []
 
 -- the answers that a wrong definition would change

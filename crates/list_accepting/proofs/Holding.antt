@@ -4,9 +4,10 @@ use mathlib.Core.Path.{◌≡◌, refl}
 use mathlib.Core.Bool.{Bool, true, false, not, ◌&&◌}
 use mathlib.Core.List.{List, [], ◌∷◌}
 use Prim.Native.Nat.{ℕ}
-use Rattle.order.specs.Ordering.{Ordering, lt, eq, gt, is_le, compare_is_eq, is_ge}
+use Rattle.order.specs.Ordering.{Ordering, lt, eq, gt, is_le, compare_is_eq, is_ge, is_lt, is_gt}
 use Rattle.order.specs.Answer.{name_of}
-use Rattle.order.specs.declared.Order.{Order}
+use Rattle.std.specs.declared.cmp.Ordering.{Ordering as Order}
+use Rattle.std.specs.Ordering.{is_eq as says_eq, is_ne as says_ne, is_lt as says_lt, is_gt as says_gt, is_le as says_le, is_ge as says_ge}
 use Rattle.version_parts.specs.declared.fields.Version.{Version}
 use Rattle.version_reading.specs.Value.{Value, value_of}
 use Rattle.version_order.specs.Versions.{compare_public}
@@ -16,24 +17,39 @@ use Rattle.version_prefix.proofs.Labels.{match_blind}
 use Rattle.list_clauses.specs.declared.operator.Operator.{Operator}
 use Rattle.list_clauses.specs.declared.operator.Operator.TheVariants.{Equal, NotEqual, Compatible, AtMost, AtLeast, Below, Above}
 use Rattle.list_clauses.specs.declared.clause.Clause.{Clause}
-use Rattle.list_accepting.specs.Accept.{says_at_most, says_same, says_at_least, equals, holds, clause_accepts, all_accept}
+use Rattle.list_accepting.specs.Accept.{equals, holds, clause_accepts, all_accept}
 
 -- what the name of an order says
 module _ (r : Order) (q : Bool) where
-  pub by_at_most_name : (o : Ordering) → r ≡ name_of o → q ≡ says_at_most r → q ≡ is_le o
-  by_at_most_name lt e f = rw e at f
-  by_at_most_name eq e f = rw e at f
-  by_at_most_name gt e f = rw e at f
+  pub named_le : (o : Ordering) → r ≡ name_of o → q ≡ says_le r → q ≡ is_le o
+  named_le lt e f = rw e at f
+  named_le eq e f = rw e at f
+  named_le gt e f = rw e at f
 
-  pub by_same_name : (o : Ordering) → r ≡ name_of o → q ≡ says_same r → q ≡ compare_is_eq o
-  by_same_name lt e f = rw e at f
-  by_same_name eq e f = rw e at f
-  by_same_name gt e f = rw e at f
+  pub named_eq : (o : Ordering) → r ≡ name_of o → q ≡ says_eq r → q ≡ compare_is_eq o
+  named_eq lt e f = rw e at f
+  named_eq eq e f = rw e at f
+  named_eq gt e f = rw e at f
 
-  pub by_at_least_name : (o : Ordering) → r ≡ name_of o → q ≡ says_at_least r → q ≡ is_ge o
-  by_at_least_name lt e f = rw e at f
-  by_at_least_name eq e f = rw e at f
-  by_at_least_name gt e f = rw e at f
+  pub named_ne : (o : Ordering) → r ≡ name_of o → q ≡ says_ne r → q ≡ not (compare_is_eq o)
+  named_ne lt e f = rw e at f
+  named_ne eq e f = rw e at f
+  named_ne gt e f = rw e at f
+
+  pub named_ge : (o : Ordering) → r ≡ name_of o → q ≡ says_ge r → q ≡ is_ge o
+  named_ge lt e f = rw e at f
+  named_ge eq e f = rw e at f
+  named_ge gt e f = rw e at f
+
+  pub named_lt : (o : Ordering) → r ≡ name_of o → q ≡ says_lt r → q ≡ is_lt o
+  named_lt lt e f = rw e at f
+  named_lt eq e f = rw e at f
+  named_lt gt e f = rw e at f
+
+  pub named_gt : (o : Ordering) → r ≡ name_of o → q ≡ says_gt r → q ≡ is_gt o
+  named_gt lt e f = rw e at f
+  named_gt eq e f = rw e at f
+  named_gt gt e f = rw e at f
 
 -- `==V`, and with a wildcard `==V.*`
 module _ (wildcard : Bool) (v w : Value) (r : Bool) where
@@ -42,14 +58,6 @@ module _ (wildcard : Bool) (v w : Value) (r : Bool) where
 
   pub equal_by_order : wildcard ≡ false → r ≡ compare_is_eq (compare_public w v) → r ≡ equals wildcard v w
   equal_by_order e f = rw e f
-
--- both tests, the second where the first holds
-module _ (p q a b : Bool) (e : p ≡ a) where
-  pub first_fails : p ≡ false → false ≡ a && b
-  first_fails f = rw (← e, f)
-
-  pub second_decides : p ≡ true → q ≡ b → q ≡ a && b
-  second_decides f g = rw (← e, f) g
 
 -- the operator is found
 module _ (o : Operator) (wildcard : Bool) (v w : Value) (r : Bool) where
@@ -60,6 +68,10 @@ module _ (o : Operator) (wildcard : Bool) (v w : Value) (r : Bool) where
   pub by_not_equal : o ≡ NotEqual → r ≡ equals wildcard v w → not r ≡ holds o wildcard v w
   unfolding holds
   by_not_equal e f = rw (e, f)
+
+  pub by_unlike : o ≡ NotEqual → r ≡ not (equals wildcard v w) → r ≡ holds o wildcard v w
+  unfolding holds
+  by_unlike e f = rw e f
 
   pub by_compatible : o ≡ Compatible → r ≡ is_ge (compare_public w v) && prefix_matches (shorter v) w → r ≡ holds o wildcard v w
   unfolding holds
@@ -73,13 +85,13 @@ module _ (o : Operator) (wildcard : Bool) (v w : Value) (r : Bool) where
   unfolding holds
   by_at_least e f = rw e f
 
-  pub by_below : o ≡ Below → r ≡ is_ge (compare_public w v) → not r ≡ holds o wildcard v w
+  pub by_below : o ≡ Below → r ≡ is_lt (compare_public w v) → r ≡ holds o wildcard v w
   unfolding holds
-  by_below e f = rw (e, f)
+  by_below e f = rw e f
 
-  pub by_above : o ≡ Above → r ≡ is_le (compare_public w v) → not r ≡ holds o wildcard v w
+  pub by_above : o ≡ Above → r ≡ is_gt (compare_public w v) → r ≡ holds o wildcard v w
   unfolding holds
-  by_above e f = rw (e, f)
+  by_above e f = rw e f
 
 -- where a candidate's label lies is nothing to what clauses accept
 module _ (t : List ℕ) (w : Version) where

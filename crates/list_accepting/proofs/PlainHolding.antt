@@ -9,7 +9,7 @@ use lib.Dec.{eqb}
 use lib.ListN.{length, take, replicate}
 use borrow.Author.Tests.{eq-eqb, ne_eqb}
 use Rattle.order.specs.Answer.{name_of}
-use Rattle.order.specs.declared.Order.{Order}
+use Rattle.std.specs.declared.cmp.Ordering.{Ordering as Order}
 use Rattle.version_reading.specs.declared.plain.Plain.{Plain}
 use Rattle.version_reading.specs.Plain.{Filled, FilledPlain}
 use Rattle.version_reading.specs.Value.{value_of}

@@ -1,8 +1,9 @@
 -- What one clause accepts, and what a list does. Labels are ignored: `compare_public` does not see them, nor does a match.
-use Rattle.std.specs.Prelude.{Bool, true, false, not, ◌&&◌, List, [], ◌∷◌, ℕ}
+use Rattle.answers.specs.declared.RefusedInput.TheVariants.{First, Second}
+use Rattle.answers.specs.declared.RefusedInput.{RefusedInput}
+use Rattle.std.specs.Prelude.{Bool, true, false, not, ◌&&◌, List, [], ◌∷◌, ℕ, Result, Ok, Err}
+use Rattle.answers.specs.declared.Refusal.{Refusal}
 use Rattle.order.specs.Ordering.{is_le, compare_is_eq, is_ge, is_lt, is_gt}
-use Rattle.order.specs.declared.Order.{Order}
-use Rattle.order.specs.declared.Order.TheVariants.{Less, Equal as Same, Greater}
 use Rattle.answers.specs.Refusal.{refusal}
 use Rattle.answers.specs.YesNo.{yes_or_no}
 use Rattle.version_reading.specs.declared.text.Verdict.{Verdict}
@@ -14,25 +15,7 @@ use Rattle.version_prefix.specs.Prefix.{prefix_matches, shorter}
 use Rattle.list_clauses.specs.declared.operator.Operator.{Operator}
 use Rattle.list_clauses.specs.declared.operator.Operator.TheVariants.{Equal, NotEqual, Compatible, AtMost, AtLeast, Below, Above}
 use Rattle.list_clauses.specs.declared.clause.Clause.{Clause}
-use Rattle.answers.specs.declared.YesNo.{YesNo}
-use Rattle.answers.specs.declared.YesNo.TheVariants.{First as OfList, Second as OfVersion}
 use Rattle.list_clauses.specs.List.{Listing, refused, clauses, list_of}
-
--- what the code's name for an order says
-abbrev pub says_at_most : Order → Bool
-says_at_most Less = true
-says_at_most Same = true
-says_at_most Greater = false
-
-abbrev pub says_same : Order → Bool
-says_same Less = false
-says_same Same = true
-says_same Greater = false
-
-abbrev pub says_at_least : Order → Bool
-says_at_least Less = false
-says_at_least Same = true
-says_at_least Greater = true
 
 -- `==V`: equal in order; `==V.*`: a match
 abbrev pub equals : Bool → Value → Value → Bool
@@ -60,11 +43,16 @@ abbrev pub all_accept : List Clause → Value → Bool
 all_accept [] w = true
 all_accept (c ∷ cs) w = clause_accepts c w && all_accept cs w
 
+-- what a list says of a version that was read
+abbrev pub told_by : Listing → Value → Result Bool Refusal
+told_by (refused number place) w = Err (refusal number place)
+told_by (clauses cs) w = Ok (all_accept cs w)
+
 -- the list is judged first
-abbrev pub judged_by : Listing → Verdict → Value → YesNo
-judged_by (refused number place) verdict w = OfList (refusal number place)
-judged_by (clauses cs) (Refused refusal) w = OfVersion refusal
+abbrev pub judged_by : Listing → Verdict → Value → Result Bool RefusedInput
+judged_by (refused number place) verdict w = Err (First (refusal number place))
+judged_by (clauses cs) (Refused refusal) w = Err (Second refusal)
 judged_by (clauses cs) Accepted w = yes_or_no (all_accept cs w)
 
-unfoldable pub accepted : List ℕ → List ℕ → YesNo
+unfoldable pub accepted : List ℕ → List ℕ → Result Bool RefusedInput
 accepted s t = judged_by (list_of s) (version_of t).verdict (value_in t)

@@ -12,35 +12,28 @@ ghost use Rattle.list_accepting.specs.Accept.{accepted};
 
 use crate::accept::accept_version;
 use crate::plain_accept::accept_plain;
-use answers::YesNo;
+use answers::RefusedInput;
 use version_reading::plain::read_plain;
 use version_reading::text::Verdict;
 
 // The list is judged first; what it says of a refused version is not used.
-fn accept_read(list: &[u8], text: &[u8]) -> YesNo
+fn accept_read(list: &[u8], text: &[u8]) -> Result<bool, RefusedInput>
     ensures { result ≡ accepted list.now text.now }
 {
     let read = version::read(text);
-    let version = read.version;
-    let answer = accept_version(list, version);
-    if let YesNo::First(refusal) = answer {
-        return YesNo::First(refusal);
+    let held = accept_version(list, read.version).map_err(RefusedInput::First)?;
+    match read.verdict {
+        Verdict::Accepted => Ok(held),
+        Verdict::Refused(refusal) => Err(RefusedInput::Second(refusal)),
     }
-    let verdict = read.verdict;
-    if let Verdict::Refused(refusal) = verdict {
-        return YesNo::Second(refusal);
-    }
-    answer
 }
 
 // Whether every clause of a list accepts a version. Most versions are plain, and need no fields laid out.
-pub fn accepts(list: &[u8], text: &[u8]) -> YesNo
+pub fn accepts(list: &[u8], text: &[u8]) -> Result<bool, RefusedInput>
     ensures { result ≡ accepted list.now text.now }
 {
-    let read = read_plain(text);
-    if !read.found {
+    let Some(plain) = read_plain(text) else {
         return accept_read(list, text);
-    }
-    let plain = read.plain;
-    accept_plain(list, plain)
+    };
+    accept_plain(list, plain).map_err(RefusedInput::First)
 }

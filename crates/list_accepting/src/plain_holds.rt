@@ -8,13 +8,12 @@ ghost use Rattle.version_prefix.specs.Prefix.{prefix_matches, shorter};
 ghost use Rattle.list_accepting.specs.Accept.{holds};
 ghost use Rattle.list_accepting.specs.Plain.{plain_value};
 
-use crate::holds::{at_least, at_most, same};
 use list_clauses::operator::Operator;
-use order::Order;
+use std::cmp::Ordering;
 use version_compare::plain::compare_plains;
 use version_reading::plain::Plain;
 
-fn order_of(w: Plain, v: Plain) -> Order
+fn order_of(w: Plain, v: Plain) -> Ordering
     requires { FilledPlain w × FilledPlain v }
     ensures { result ≡ name_of (compare_public (plain_value w) (plain_value v)) }
 {
@@ -53,10 +52,7 @@ fn compatible_plain(v: Plain, w: Plain) -> bool
     requires { FilledPlain v × FilledPlain w }
     ensures { result ≡ is_ge (compare_public (plain_value w) (plain_value v)) && prefix_matches (shorter (plain_value v)) (plain_value w) }
 {
-    if at_least(order_of(w, v)) {
-        return begins_alike(v, w);
-    }
-    false
+    order_of(w, v).is_ge() && begins_alike(v, w)
 }
 
 pub(crate) fn holds_plain(operator: Operator, v: Plain, w: Plain) -> bool
@@ -64,12 +60,12 @@ pub(crate) fn holds_plain(operator: Operator, v: Plain, w: Plain) -> bool
     ensures { result ≡ holds operator false (plain_value v) (plain_value w) }
 {
     match operator {
-        Operator::Equal => same(order_of(w, v)),
-        Operator::NotEqual => !same(order_of(w, v)),
+        Operator::Equal => order_of(w, v).is_eq(),
+        Operator::NotEqual => order_of(w, v).is_ne(),
         Operator::Compatible => compatible_plain(v, w),
-        Operator::AtMost => at_most(order_of(w, v)),
-        Operator::AtLeast => at_least(order_of(w, v)),
-        Operator::Below => !at_least(order_of(w, v)),
-        Operator::Above => !at_most(order_of(w, v)),
+        Operator::AtMost => order_of(w, v).is_le(),
+        Operator::AtLeast => order_of(w, v).is_ge(),
+        Operator::Below => order_of(w, v).is_lt(),
+        Operator::Above => order_of(w, v).is_gt(),
     }
 }

@@ -1,6 +1,7 @@
 -- The ways of the functions that read one clause.
 -- Assumes nothing.
-use mathlib.Core.Path.{◌≡◌}
+use Rattle.std.specs.Prelude.{Option, Some, None, Result}
+use mathlib.Core.Path.{◌≡◌, refl}
 use mathlib.Core.List.{List}
 use Prim.Native.Nat.{ℕ, ◌+◌, ◌-◌, ◌≤◌}
 use native.Mathlib.Omega.{arith}
@@ -10,53 +11,46 @@ use lib.ListN.{length, take, drop, length-drop}
 use Rattle.chars.proofs.Cases.{yes_eq, no_eq}
 use Rattle.chars.proofs.Parts.{take_rest}
 use Rattle.answers.specs.declared.Refusal.{Refusal}
-use Rattle.version_reading.specs.declared.text.Verdict.{Verdict}
 use Rattle.version_reading.specs.declared.text.Verdict.TheVariants.{Accepted, Refused}
 use Rattle.version_reading.specs.declared.text.PatternReading.{PatternReading}
-use Rattle.version_reading.specs.Reading.{pattern_of, place_of, longest}
+use Rattle.version_reading.specs.Reading.{pattern_of}
 use Rattle.list_clauses.specs.declared.operator.Operator.{Operator}
-use Rattle.list_clauses.specs.declared.operator.OperatorAt.{OperatorAt}
-use Rattle.list_clauses.specs.declared.operator.OperatorAt.TheVariants.{Found, Missing}
 use Rattle.list_clauses.specs.declared.clause.Clause.{Clause}
 use Rattle.list_clauses.specs.Operator.{operator_of, operator_length}
 use Rattle.list_clauses.specs.Clause.{refused_clause, judged, pattern_clause, clause_of}
 
--- what was read after the operator, by its verdict v
-module _ (operator : Operator) (text : List ℕ) (place : ℕ) (read : PatternReading) (v : Verdict) (q : Clause)
-    (d : read ≡ pattern_of text) (e : v ≡ read.verdict) where
-  pub pattern_refused : (x : Refusal) → v ≡ Refused x → q ≡ refused_clause x.number (place + x.place) → q ≡ pattern_clause operator text place
+-- what was read after the operator
+module _ (operator : Operator) (text : List ℕ) (place : ℕ) (read : PatternReading) (d : read ≡ pattern_of text) where
+  pub pattern_refused : (x : Refusal) → read.verdict ≡ Refused x → refused_clause x.number (place + x.place) ≡ pattern_clause operator text place
   unfolding pattern_clause
-  pattern_refused x f g = rw (← d, ← e, f) g
+  pattern_refused x f = rw (← d, f)
 
-  pub pattern_judged : v ≡ Accepted → q ≡ judged operator read.wildcard read.version place → q ≡ pattern_clause operator text place
+  pub pattern_judged : (q : Result Clause Refusal) → read.verdict ≡ Accepted → q ≡ judged operator read.wildcard read.version place →
+      q ≡ pattern_clause operator text place
   unfolding pattern_clause
-  pattern_judged f g = rw (← d, ← e, f) g
-
--- the place of a pattern's refusal fits where the pattern's own place does
-pub place_fits : (v : Verdict) (x : Refusal) (place n : ℕ) → place_of v ≤ longest → v ≡ Refused x → place + n ≤ 1024 → Fits w64 (place + x.place)
-place_fits v x place n h f g = record { fits = omega (arith, rw f at h) }
+  pattern_judged q f g = rw (← d, f) g
 
 -- t are the clause's bytes without outer blanks
-module _ (t : List ℕ) (start from : ℕ) (q : Clause) where
-  pub clause_empty : length t ≡ 0 → q ≡ refused_clause 12 start → q ≡ clause_of t start from
+module _ (t : List ℕ) (start from : ℕ) where
+  pub clause_empty : length t ≡ 0 → refused_clause 12 start ≡ clause_of t start from
   unfolding clause_of
-  clause_empty f g = yes_eq (length t) 0 _ f g
+  clause_empty f = yes_eq (length t) 0 _ f refl
 
   -- r is the operator in front of them
-  module _ (r : OperatorAt) (some : length t ≡ 0 → ⊥) (f : r ≡ operator_of t) where
-    pub clause_missing : r ≡ Missing → q ≡ refused_clause 13 from → q ≡ clause_of t start from
+  module _ (r : Option (Operator × ℕ)) (some : length t ≡ 0 → ⊥) (f : r ≡ operator_of t) where
+    pub clause_missing : r ≡ None → refused_clause 13 from ≡ clause_of t start from
     unfolding clause_of
-    clause_missing g h = no_eq (length t) 0 _ some (rw (← f, g) h)
+    clause_missing g = no_eq (length t) 0 _ some (rw (← f, g))
 
-    pub clause_read : (operator : Operator) (width : ℕ) → r ≡ Found operator width →
+    pub clause_read : (q : Result Clause Refusal) (operator : Operator) (width : ℕ) → r ≡ Some (operator, width) →
         q ≡ pattern_clause operator (take (length t - width) (drop width t)) (from + width) → q ≡ clause_of t start from
     unfolding clause_of
-    clause_read operator width g i =
+    clause_read q operator width g i =
         let rest : q ≡ pattern_clause operator (drop width t) (from + width) = rw (take_rest t width) at i in
         no_eq (length t) 0 _ some (rw (← f, g) rest)
 
 -- the operator ends within the clause
-module _ (t : List ℕ) (r : OperatorAt) (operator : Operator) (width : ℕ) (h : operator_length r ≤ length t) (f : r ≡ Found operator width) where
+module _ (t : List ℕ) (r : Option (Operator × ℕ)) (operator : Operator) (width : ℕ) (h : operator_length r ≤ length t) (f : r ≡ Some (operator, width)) where
   pub operator_ends : width ≤ length t
   operator_ends = rw f at h
 

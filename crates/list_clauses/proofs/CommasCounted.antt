@@ -1,36 +1,29 @@
--- The loop that counts commas, and that each step but the last passes one.
+-- Each step over the clauses but the last passes a comma.
 -- Assumes nothing.
-use mathlib.Core.Path.{◌≡◌}
+use mathlib.Core.Path.{◌≡◌, sym, ap, ◌∙◌}
 use mathlib.Core.Bool.{false}
 use mathlib.Core.List.{List, [], ◌∷◌}
-use Prim.Native.Nat.{ℕ, suc, ◌+◌, ◌≤◌, ◌<◌}
-use native.Mathlib.Numerals.{add-one}
+use Prim.Native.Nat.{ℕ, suc, ◌+◌, ◌<◌}
 use native.Mathlib.Omega.{arith}
 use lib.Dec.{eqb}
-use lib.ListN.{length, get_or, drop, length-drop, drop_of_length-le}
-use lib.Seq.{drop-cons, drop-drop}
+use lib.ListN.{length, drop, length-drop}
+use lib.Seq.{drop-drop}
 use borrow.Author.Tests.{lt-leb, leb-false}
+use Rattle.std.specs.Bool.{◌==◌}
+use Rattle.std.specs.List.{filter}
+use Rattle.std.proofs.lemmas.List.Sums.{length-filter}
 use Rattle.chars.specs.Scan.{index_after, index_of}
 use Rattle.version.proofs.Answers.{flag_cases, holds, fails}
 use Rattle.list_clauses.specs.declared.step.Step.{Step}
-use Rattle.list_clauses.specs.Commas.{of_byte, commas_in}
+use Rattle.list_clauses.specs.Commas.{commas_in}
 use Rattle.list_clauses.specs.Step.{comma_after, part_at, step_at}
 
--- `count` commas stand before place i
-module _ (s : List ℕ) (count i : ℕ) (same : count + commas_in (drop i s) ≡ commas_in s) where
-  pub commas_more : (n : ℕ) → i < length s → n ≡ of_byte (get_or s i 0) → count + n + commas_in (drop (i + 1) s) ≡ commas_in s
-  unfolding commas_in
-  commas_more n h e =
-      let one : commas_in (drop i s) ≡ of_byte (get_or s i 0) + commas_in (drop (i + 1) s) = rw (drop-cons s i 0 h, add-one i) in
-      omega arith
-
-  pub commas_all : length s ≤ i → count ≡ commas_in s
-  unfolding commas_in
-  commas_all h = let none : commas_in (drop i s) ≡ 0 = rw (drop_of_length-le s h) in omega arith
-
 -- the first comma, and those after it
-first_comma : (t : List ℕ) → index_of 44 t < length t → commas_in t ≡ suc (commas_in (drop (index_of 44 t + 1) t))
-unfolding index_of index_after commas_in
+abbrev commas : List ℕ → List ℕ
+commas t = filter (λ b. b == 44) t
+
+first_comma : (t : List ℕ) → index_of 44 t < length t → length (commas t) ≡ suc (length (commas (drop (index_of 44 t + 1) t)))
+unfolding index_of index_after
 first_comma [] h = absurd (omega arith)
 first_comma (b ∷ t) h =
     elim (flag_cases (eqb b 44)) [
@@ -43,10 +36,13 @@ first_comma (b ∷ t) h =
 
 pub comma_passed : (s : List ℕ) (start : ℕ) (x : Step) → x ≡ step_at s start → x.part.last ≡ false →
     commas_in (drop start s) ≡ suc (commas_in (drop x.part.next s))
-unfolding step_at part_at comma_after
+unfolding step_at part_at comma_after commas_in
 comma_passed s start x e last =
+    let rest = drop start s in
     let found : comma_after s start < length s = leb-false (length s) (comma_after s start) (rw e at last) in
-    let inside : index_of 44 (drop start s) < length (drop start s) = omega (arith, length-drop start s) in
-    let next : x.part.next ≡ start + (index_of 44 (drop start s) + 1) =
+    let inside : index_of 44 rest < length rest = omega (arith, length-drop start s) in
+    let next : x.part.next ≡ start + (index_of 44 rest + 1) =
     rw (e, lt-leb (length s) (comma_after s start) found) (omega arith) in
-    rw (next, ← drop-drop (index_of 44 (drop start s) + 1) start s) (first_comma (drop start s) inside)
+    let next_rest = drop (index_of 44 rest + 1) rest in
+    rw (next, ← drop-drop (index_of 44 rest + 1) start s)
+    (sym (length-filter _ rest) ∙ first_comma rest inside ∙ ap suc (length-filter _ next_rest))

@@ -1,5 +1,6 @@
 -- A list is refused with a number and a place exactly in the case of that row, and read exactly where no row has it; so say listing and
 -- checking. Assumes nothing.
+use Rattle.std.specs.Prelude.{Ok, Err}
 use mathlib.Core.Path.{◌≡◌, refl, sym, ◌∙◌, ap}
 use mathlib.Core.Logic.{◌↔◌}
 use mathlib.Core.List.{List}
@@ -9,7 +10,6 @@ use lib.ListN.{length}
 use Rattle.answers.specs.declared.Refusal.{Refusal}
 use Rattle.answers.specs.Refusal.{refusal}
 use Rattle.list_clauses.specs.declared.clause.Clause.{Clause}
-use Rattle.answers.specs.declared.Measured.TheVariants.{Length, Refused}
 use Rattle.list_clauses.specs.List.{Listing, refused, clauses, list_of, count_of, checked}
 use Rattle.list_clauses.specs.Refusals.{Row}
 use Rattle.list_clauses.proofs.Walks.{one_refusal, not_both}
@@ -45,29 +45,29 @@ module _ (s : List ℕ) where
   list_read_exactly = (listed_without_row, λ none. without_row none (list_of s) refl)
 
 -- checking it
-count_refused : (l : Listing) {n p : ℕ} → count_of l ≡ Refused (refusal n p) → l ≡ refused n p
+count_refused : (l : Listing) {n p : ℕ} → count_of l ≡ Err (refusal n p) → l ≡ refused n p
 count_refused (refused m q) {n = n} {p = p} e = let same : refusal m q ≡ refusal n p = cc in same_listing same
 count_refused (clauses cs) e = cc
 
-count_listed : (l : Listing) (count : ℕ) → count_of l ≡ Length count → Listed l
+count_listed : (l : Listing) (count : ℕ) → count_of l ≡ Ok count → Listed l
 count_listed (refused m q) count e = let impossible : m ≡ suc m = cc in absurd (omega arith)
 count_listed (clauses cs) count e = (cs, refl)
 
 module _ (s : List ℕ) where
-  pub check_refused_exactly : (n p : ℕ) → (checked s ≡ Refused (refusal n p)) ↔ Row s n p
+  pub check_refused_exactly : (n p : ℕ) → (checked s ≡ Err (refusal n p)) ↔ Row s n p
   unfolding checked
   check_refused_exactly n p = (λ e. row_of_refusal s n p (count_refused (list_of s) e), λ r. ap (count_of) (refused_in_its_case s n p r))
 
-  counted_without_row : ((count : ℕ) × (checked s ≡ Length count)) → NoRow s
+  counted_without_row : ((count : ℕ) × (checked s ≡ Ok count)) → NoRow s
   unfolding checked
   counted_without_row c = (list_read_exactly s).0 (count_listed (list_of s) c.0 c.1)
 
-  counted : (cs : List Clause) → list_of s ≡ clauses cs → checked s ≡ Length (length cs)
+  counted : (cs : List Clause) → list_of s ≡ clauses cs → checked s ≡ Ok (length cs)
   unfolding checked
   counted cs e = rw e
 
-  without_row_counted : NoRow s → (count : ℕ) × (checked s ≡ Length count)
+  without_row_counted : NoRow s → (count : ℕ) × (checked s ≡ Ok count)
   without_row_counted none = let l = (list_read_exactly s).1 none in (length l.0, counted l.0 l.1)
 
-  pub check_counted_exactly : ((count : ℕ) × (checked s ≡ Length count)) ↔ NoRow s
+  pub check_counted_exactly : ((count : ℕ) × (checked s ≡ Ok count)) ↔ NoRow s
   check_counted_exactly = (counted_without_row, without_row_counted)

@@ -1,9 +1,12 @@
 -- A clause is refused with a number and a place exactly in the case of that row.
 -- Assumes nothing.
-use mathlib.Core.Path.{◌≡◌, refl, sym, ◌∙◌, ap}
+use Rattle.answers.specs.declared.Refusal.{Refusal}
+use Rattle.answers.specs.Refusal.{refusal}
+use Rattle.std.specs.Prelude.{Option, Some, None, Ok, Err}
+use mathlib.Core.Path.{◌≡◌, refl, ◌∙◌}
 use mathlib.Core.Bool.{true}
 use mathlib.Core.List.{List}
-use Prim.Native.Nat.{ℕ, ◌+◌, ◌≤◌, ◌<◌}
+use Prim.Native.Nat.{ℕ, ◌+◌, ◌≤◌}
 use native.Mathlib.Decide.{ℕ_discrete}
 use native.Mathlib.Omega.{arith}
 use lib.ListN.{length, drop, length-drop}
@@ -14,13 +17,10 @@ use Rattle.version.specs.Refusals.{Row as PatternRow}
 use Rattle.version.proofs.Answers.{flag_cases, holds, fails}
 use Rattle.version.proofs.Covering.{some_row, accepted, refused}
 use Rattle.version.proofs.Exactly.{pattern_refused}
-use Rattle.version.proofs.Numbers.{refusal_numbers}
 use Rattle.list_clauses.specs.declared.operator.Operator.{Operator}
-use Rattle.list_clauses.specs.declared.operator.OperatorAt.{OperatorAt}
-use Rattle.list_clauses.specs.declared.operator.OperatorAt.TheVariants.{Found, Missing}
 use Rattle.list_clauses.specs.declared.clause.Clause.{Clause}
 use Rattle.list_clauses.specs.Operator.{operator_of}
-use Rattle.list_clauses.specs.Clause.{refused_clause, stray_wildcard, too_short_for, judged, pattern_clause, clause_of}
+use Rattle.list_clauses.specs.Clause.{refused_clause, clause_with, stray_wildcard, too_short_for, judged, pattern_clause, clause_of}
 use Rattle.list_clauses.specs.Refusals.{OperatorRead, PatternRead, Fault}
 
 -- the clause with the bytes t, of a list that is not too long
@@ -30,7 +30,7 @@ module _ (t : List ℕ) (start from : ℕ) (short : length t ≤ longest) where
   unfolding clause_of
   empty_refused e = rw (eq-eqb _ _ e)
 
-  unoperated : (length t ≡ 0 → ⊥) → operator_of t ≡ Missing → clause_of t start from ≡ refused_clause 13 from
+  unoperated : (length t ≡ 0 → ⊥) → operator_of t ≡ None → clause_of t start from ≡ refused_clause 13 from
   unfolding clause_of
   unoperated some e = rw (ne_eqb _ _ some, e)
 
@@ -60,18 +60,9 @@ module _ (t : List ℕ) (start from : ℕ) (short : length t ≤ longest) where
   fault_refused (Fault.labelled o width r a e f) = pattern_judged_there a ∙ rw (e, ne_eqb _ _ f)
   fault_refused (Fault.too_short o width r a e f g) = pattern_judged_there a ∙ rw (e, eq-eqb _ _ f, g)
 
-  -- no row has the number 0
-  pub fault_number : {n p : ℕ} → Fault t start from n p → 0 < n
-  fault_number (Fault.empty e) = omega arith
-  fault_number (Fault.no_operator some e) = omega arith
-  fault_number (Fault.in_pattern o width n p a f) = omega (arith, (refusal_numbers (PatternRow.within n p (within_pattern width) f)).0)
-  fault_number (Fault.stray_wildcard_there o width r a e) = omega arith
-  fault_number (Fault.labelled o width r a e f) = omega arith
-  fault_number (Fault.too_short o width r a e f g) = omega arith
-
-  -- every clause is accepted or has a row
+  -- every clause is read or has a row
   data Judged : Type 0 where
-    faultless : (clause_of t start from).refusal ≡ 0 → Judged
+    faultless : (c : Clause) → clause_of t start from ≡ Ok c → Judged
     faulty : (n p : ℕ) → Fault t start from n p → Judged
 
   from_pattern : {o : Operator} {width : ℕ} (r : PatternReading) → PatternRead t o width r → Judged
@@ -85,7 +76,7 @@ module _ (t : List ℕ) (start from : ℕ) (short : length t ≤ longest) where
               | yes f ↦
                   elim (flag_cases (too_short_for o r.version.release.len)) [
                     | holds g ↦ faulty 16 _ (Fault.too_short o width r a e f g)
-                    | fails g ↦ faultless (ap (λ (c : Clause). c.refusal) (pattern_judged_there a) ∙ rw (e, eq-eqb _ _ f, g))
+                    | fails g ↦ faultless (clause_with o r.wildcard r.version) (pattern_judged_there a ∙ rw (e, eq-eqb _ _ f, g))
                   ]
             ]
       ]
@@ -101,9 +92,9 @@ module _ (t : List ℕ) (start from : ℕ) (short : length t ≤ longest) where
         | refused n p r ↦ from_row a r
       ]
 
-  from_first : (length t ≡ 0 → ⊥) → (r : OperatorAt) → operator_of t ≡ r → Judged
-  from_first some (Found o width) e = from_operator (record { some = some; found = e })
-  from_first some Missing e = faulty 13 _ (Fault.no_operator some e)
+  from_first : (length t ≡ 0 → ⊥) → (r : Option (Operator × ℕ)) → operator_of t ≡ r → Judged
+  from_first some (Some (o, width)) e = from_operator (record { some = some; found = e })
+  from_first some None e = faulty 13 _ (Fault.no_operator some e)
 
   some_fault : Judged
   some_fault =
@@ -112,17 +103,21 @@ module _ (t : List ℕ) (start from : ℕ) (short : length t ≤ longest) where
         | no some ↦ from_first some (operator_of t) refl
       ]
 
-  pub fault_of_refusal : ((clause_of t start from).refusal ≡ 0 → ⊥) → Fault t start from (clause_of t start from).refusal (clause_of t start from).place
-  fault_of_refusal some =
+  pub fault_of_refusal : (x : Refusal) → clause_of t start from ≡ Err x → Fault t start from x.number x.place
+  fault_of_refusal x e =
       elim some_fault [
-        | faultless e ↦ absurd (some e)
-        | faulty n p f ↦ rw (fault_refused f) f
+        | faultless c g ↦ let impossible : ◌≡◌ {A = ℕ} 0 1 = cc in absurd (omega arith)
+        | faulty n p f ↦
+            let refused = fault_refused f in
+            let same : refusal n p ≡ x = cc in
+            rw (← same) f
       ]
 
-  pub read_faultless : (clause_of t start from).refusal ≡ 0 → ((n p : ℕ) → Fault t start from n p → ⊥)
-  read_faultless e n p f =
-      let number : n ≡ 0 = sym (ap (λ (c : Clause). c.refusal) (fault_refused f)) ∙ e in
-      omega (arith, fault_number f)
+  pub read_faultless : (c : Clause) → clause_of t start from ≡ Ok c → ((n p : ℕ) → Fault t start from n p → ⊥)
+  read_faultless c e n p f =
+      let refused = fault_refused f in
+      let impossible : ◌≡◌ {A = ℕ} 0 1 = cc in
+      omega arith
 
-  pub faultless_read : ((n p : ℕ) → Fault t start from n p → ⊥) → (clause_of t start from).refusal ≡ 0
-  faultless_read none = elim some_fault [ faultless e ↦ e | faulty n p f ↦ absurd (none n p f) ]
+  pub faultless_read : ((n p : ℕ) → Fault t start from n p → ⊥) → (c : Clause) × (clause_of t start from ≡ Ok c)
+  faultless_read none = elim some_fault [ faultless c e ↦ (c, e) | faulty n p f ↦ absurd (none n p f) ]

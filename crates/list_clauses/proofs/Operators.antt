@@ -1,5 +1,7 @@
 -- The ways of `find_operator`: operators by their bytes. They are no letters, so that a test in either case is a test of the byte.
 -- Assumes nothing.
+use Rattle.list_clauses.specs.declared.operator.Operator.{Operator}
+use Rattle.std.specs.Prelude.{Option, Some, None}
 use mathlib.Core.Path.{◌≡◌, refl, sym, ap}
 use mathlib.Core.Bool.{Bool, true, false, ◌&&◌, cond}
 use mathlib.Core.List.{List, [], ◌∷◌}
@@ -11,8 +13,6 @@ use lib.ListN.{get_or}
 use borrow.Author.Tests.{ne_eqb}
 use Rattle.chars.specs.Case.{lower_of, starts_with}
 use Rattle.chars.proofs.Beginnings.{lower_under, lower_over, lower_capital}
-use Rattle.list_clauses.specs.declared.operator.OperatorAt.{OperatorAt}
-use Rattle.list_clauses.specs.declared.operator.OperatorAt.TheVariants.{Found, Missing}
 use Rattle.list_clauses.specs.declared.operator.Operator.TheVariants.{Equal, NotEqual, Compatible, AtMost, AtLeast, Below, Above}
 use Rattle.list_clauses.specs.Operator.{order_of, operator_of}
 
@@ -103,8 +103,8 @@ module _ (s : List ℕ) where
   wide x = eqb (get_or s 1 0) 61 && eqb (get_or s 0 0) x
 
   order_is : order_of s
-      ≡ cond (wide 60) (Found AtMost 2) (cond (wide 62) (Found AtLeast 2)
-      (cond (eqb (get_or s 0 0) 60) (Found Below 1) (cond (eqb (get_or s 0 0) 62) (Found Above 1) Missing)))
+      ≡ cond (wide 60) (Some (AtMost, 2)) (cond (wide 62) (Some (AtLeast, 2))
+      (cond (eqb (get_or s 0 0) 60) (Some (Below, 1)) (cond (eqb (get_or s 0 0) 62) (Some (Above, 1)) None)))
   unfolding order_of
   order_is =
       rw (
@@ -115,8 +115,8 @@ module _ (s : List ℕ) where
       )
 
   operator_is : operator_of s
-      ≡ cond (eqb (get_or s 1 0) 61 && (eqb (get_or s 0 0) 61 && eqb (get_or s 2 0) 61)) Missing
-      (cond (wide 61) (Found Equal 2) (cond (wide 33) (Found NotEqual 2) (cond (wide 126) (Found Compatible 2) (order_of s))))
+      ≡ cond (eqb (get_or s 1 0) 61 && (eqb (get_or s 0 0) 61 && eqb (get_or s 2 0) 61)) None
+      (cond (wide 61) (Some (Equal, 2)) (cond (wide 33) (Some (NotEqual, 2)) (cond (wide 126) (Some (Compatible, 2)) (order_of s))))
   unfolding operator_of
   operator_is =
       rw (
@@ -128,41 +128,41 @@ module _ (s : List ℕ) where
 
   -- the ways, a and b being the first two bytes
   module _ (b : ℕ) (eb : b ≡ get_or s 1 0) where
-    pub not_wide : (r : OperatorAt) → (b ≡ 61 → ⊥) → r ≡ order_of s → r ≡ operator_of s
+    pub not_wide : (r : Option (Operator × ℕ)) → (b ≡ 61 → ⊥) → r ≡ order_of s → r ≡ operator_of s
     not_wide r h e = rw (operator_is, ← eb, ne_eqb _ _ h) e
 
     module _ (a : ℕ) (ea : a ≡ get_or s 0 0) where
       module _ (h : b ≡ 61) where
-        pub three_equals : (c : ℕ) → c ≡ get_or s 2 0 → a ≡ 61 → c ≡ 61 → Missing ≡ operator_of s
+        pub three_equals : (c : ℕ) → c ≡ get_or s 2 0 → a ≡ 61 → c ≡ 61 → None ≡ operator_of s
         three_equals c ec f g = rw (operator_is, ← ea, ← eb, ← ec, h, f, g)
 
-        pub is_equal : (c : ℕ) → c ≡ get_or s 2 0 → a ≡ 61 → (c ≡ 61 → ⊥) → Found Equal 2 ≡ operator_of s
+        pub is_equal : (c : ℕ) → c ≡ get_or s 2 0 → a ≡ 61 → (c ≡ 61 → ⊥) → Some (Equal, 2) ≡ operator_of s
         is_equal c ec f g = rw (operator_is, ← ea, ← eb, ← ec, h, f, ne_eqb _ _ g)
 
-        pub is_not_equal : a ≡ 33 → Found NotEqual 2 ≡ operator_of s
+        pub is_not_equal : a ≡ 33 → Some (NotEqual, 2) ≡ operator_of s
         is_not_equal f = rw (operator_is, ← ea, ← eb, h, f)
 
-        pub is_compatible : a ≡ 126 → Found Compatible 2 ≡ operator_of s
+        pub is_compatible : a ≡ 126 → Some (Compatible, 2) ≡ operator_of s
         is_compatible f = rw (operator_is, ← ea, ← eb, h, f)
 
-        pub is_order : (r : OperatorAt) → (a ≡ 61 → ⊥) → (a ≡ 33 → ⊥) → (a ≡ 126 → ⊥) → r ≡ order_of s → r ≡ operator_of s
+        pub is_order : (r : Option (Operator × ℕ)) → (a ≡ 61 → ⊥) → (a ≡ 33 → ⊥) → (a ≡ 126 → ⊥) → r ≡ order_of s → r ≡ operator_of s
         is_order r f g k e = rw (operator_is, ← ea, ← eb, h, ne_eqb _ _ f, ne_eqb _ _ g, ne_eqb _ _ k) e
 
-        pub is_at_most : a ≡ 60 → Found AtMost 2 ≡ order_of s
+        pub is_at_most : a ≡ 60 → Some (AtMost, 2) ≡ order_of s
         is_at_most f = rw (order_is, ← ea, ← eb, h, f)
 
-        pub is_at_least : a ≡ 62 → Found AtLeast 2 ≡ order_of s
+        pub is_at_least : a ≡ 62 → Some (AtLeast, 2) ≡ order_of s
         is_at_least f = rw (order_is, ← ea, ← eb, h, f)
 
-        pub no_wide_order : (a ≡ 60 → ⊥) → (a ≡ 62 → ⊥) → Missing ≡ order_of s
+        pub no_wide_order : (a ≡ 60 → ⊥) → (a ≡ 62 → ⊥) → None ≡ order_of s
         no_wide_order f g = rw (order_is, ← ea, ← eb, h, ne_eqb _ _ f, ne_eqb _ _ g)
 
       module _ (h : b ≡ 61 → ⊥) where
-        pub is_below : a ≡ 60 → Found Below 1 ≡ order_of s
+        pub is_below : a ≡ 60 → Some (Below, 1) ≡ order_of s
         is_below f = rw (order_is, ← ea, ← eb, ne_eqb _ _ h, f)
 
-        pub is_above : a ≡ 62 → Found Above 1 ≡ order_of s
+        pub is_above : a ≡ 62 → Some (Above, 1) ≡ order_of s
         is_above f = rw (order_is, ← ea, ← eb, ne_eqb _ _ h, f)
 
-        pub no_order : (a ≡ 60 → ⊥) → (a ≡ 62 → ⊥) → Missing ≡ order_of s
+        pub no_order : (a ≡ 60 → ⊥) → (a ≡ 62 → ⊥) → None ≡ order_of s
         no_order f g = rw (order_is, ← ea, ← eb, ne_eqb _ _ h, ne_eqb _ _ f, ne_eqb _ _ g)

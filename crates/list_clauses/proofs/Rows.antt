@@ -1,5 +1,8 @@
 -- A list is refused with a number and a place exactly in the case of that row: in that case it is, and whatever it is refused with has a row.
 -- Assumes nothing.
+use Rattle.answers.specs.declared.Refusal.{Refusal}
+use Rattle.answers.specs.Refusal.{refusal}
+use Rattle.std.specs.Prelude.{Result, Ok, Err}
 use mathlib.Core.Path.{◌≡◌, refl, sym, ◌∙◌, ap}
 use mathlib.Core.Bool.{false}
 use mathlib.Core.List.{List}
@@ -18,9 +21,9 @@ use Rattle.list_clauses.specs.Clause.{refused_clause, clause_of}
 use Rattle.list_clauses.specs.Step.{comma_after, part_start, part_end, part_bytes, part_at, clause_in, step_at}
 use Rattle.list_clauses.specs.List.{Listing, refused, clauses, followed, clauses_from, list_of}
 use Rattle.list_clauses.specs.Refusals.{FaultAt, Faultless, Begun, Row}
-use Rattle.list_clauses.proofs.Walks.{one_refusal, not_both, step_refused, step_last, step_more}
+use Rattle.list_clauses.proofs.Walks.{was_read, was_refused, outcome, one_refusal, not_both, step_refused, step_last, step_more}
 use Rattle.list_clauses.proofs.Lists.{listed_long, listed_blank, listed_some}
-use Rattle.list_clauses.proofs.Faults.{fault_refused, fault_number, fault_of_refusal, read_faultless, faultless_read}
+use Rattle.list_clauses.proofs.Faults.{fault_refused, fault_of_refusal, read_faultless, faultless_read}
 
 followed_refused : (c : Clause) (l : Listing) {n p : ℕ} → followed c l ≡ refused n p → l ≡ refused n p
 followed_refused c (refused m q) e = e
@@ -38,7 +41,7 @@ module _ (s : List ℕ) (start : ℕ) where
 
 module _ (s : List ℕ) (short : length s ≤ longest) where
   -- the step there, and its clause
-  abbrev there : ℕ → Clause
+  abbrev there : ℕ → Result Clause Refusal
   there start = (step_at s start).clause
 
   is_read : (start : ℕ) → there start ≡ clause_of (part_bytes s start) start (part_start s start)
@@ -49,19 +52,19 @@ module _ (s : List ℕ) (short : length s ≤ longest) where
   part_short start =
       omega (arith, length-take (part_end s start - part_start s start) (drop (part_start s start) s), length-drop (part_start s start) s)
 
-  there_read : (start : ℕ) → Faultless s start → (there start).refusal ≡ 0
-  there_read start none = rw (is_read start) (faultless_read (part_bytes s start) start (part_start s start) (part_short start) none)
+  there_read : (start : ℕ) → Faultless s start → (c : Clause) × (there start ≡ Ok c)
+  there_read start none =
+      let read = faultless_read (part_bytes s start) start (part_start s start) (part_short start) none in
+      (read.0, is_read start ∙ read.1)
 
-  there_faultless : (start : ℕ) → (there start).refusal ≡ 0 → Faultless s start
-  there_faultless start e = read_faultless (part_bytes s start) start (part_start s start) (part_short start) (rw (is_read start) at e)
+  there_faultless : (start : ℕ) (c : Clause) → there start ≡ Ok c → Faultless s start
+  there_faultless start c e = read_faultless (part_bytes s start) start (part_start s start) (part_short start) c (sym (is_read start) ∙ e)
 
   there_refused : {start n p : ℕ} → FaultAt s start n p → there start ≡ refused_clause n p
   there_refused {start = start} f = is_read start ∙ fault_refused (part_bytes s start) start (part_start s start) (part_short start) f
 
-  there_fault : (start : ℕ) → ((there start).refusal ≡ 0 → ⊥) → FaultAt s start (there start).refusal (there start).place
-  there_fault start some =
-      rw (is_read start)
-      (fault_of_refusal (part_bytes s start) start (part_start s start) (part_short start) (rw (is_read start) at some))
+  there_fault : (start : ℕ) (x : Refusal) → there start ≡ Err x → FaultAt s start x.number x.place
+  there_fault start x e = fault_of_refusal (part_bytes s start) start (part_start s start) (part_short start) x (sym (is_read start) ∙ e)
 
   -- where clauses without a fault were read, a refusal from there on is the list's
   so_far : {count start : ℕ} (n p : ℕ) → Begun s count start → count ≤ 16 → clauses_from (16 - count) s start ≡ refused n p → list_of s ≡ refused n p
@@ -69,16 +72,14 @@ module _ (s : List ℕ) (short : length s ≤ longest) where
   so_far n p (Begun.after_comma count start b none more) few e =
       let one : 16 - count ≡ suc (16 - suc count) = omega arith in
       let on = goes_on s start more in
-      let step = step_more s start (16 - suc count) (step_at s start) refl (there_read start none) on.0 in
-      so_far n p b (omega arith) (rw one (step ∙ rw on.1 (ap (followed (there start)) e)))
+      let read = there_read start none in
+      let step = step_more s start (16 - suc count) (step_at s start) refl read.0 read.1 on.0 in
+      so_far n p b (omega arith) (rw one (step ∙ rw on.1 (ap (followed read.0) e)))
 
   clause_refused : {count start : ℕ} (n p : ℕ) → Begun s count start → count < 16 → FaultAt s start n p → list_of s ≡ refused n p
   clause_refused {count = count} {start = start} n p b few f =
       let one : 16 - count ≡ suc (15 - count) = omega arith in
-      let same = there_refused f in
-      let number = fault_number (part_bytes s start) start (part_start s start) (part_short start) f in
-      let some : (there start).refusal ≡ 0 → ⊥ = rw same (λ e. omega arith) in
-      so_far n p b (omega arith) (rw one (step_refused s start (15 - count) (step_at s start) refl some ∙ rw same))
+      so_far n p b (omega arith) (rw one (step_refused s start (15 - count) (step_at s start) refl (refusal n p) (there_refused f)))
 
   full_refused : (start : ℕ) → Begun s 16 start → list_of s ≡ refused 17 start
   unfolding clauses_from
@@ -93,17 +94,17 @@ module _ (s : List ℕ) (short : length s ≤ longest) where
       rw (← same.0, ← same.1) (Row.too_many start short (rw full at b))
   row_from (suc room) count start n p size b e =
       let x : Step = step_at s start in
-      elim (ℕ_discrete x.clause.refusal 0) [
-        | no some ↦
-            let same = one_refusal (sym (step_refused s start room x refl some) ∙ e) in
-            rw (← same.0, ← same.1) (Row.in_clause count start _ _ short b (omega arith) (there_fault start some))
-        | yes read ↦
+      elim (outcome x.clause) [
+        | was_refused y some ↦
+            let same = one_refusal (sym (step_refused s start room x refl y some) ∙ e) in
+            rw (← same.0, ← same.1) (Row.in_clause count start _ _ short b (omega arith) (there_fault start y some))
+        | was_read c read ↦
             elim (flag_cases x.part.last) [
-              | holds last ↦ absurd (not_both (sym (step_last s start room x refl read last) ∙ e))
+              | holds last ↦ absurd (not_both (sym (step_last s start room x refl c read last) ∙ e))
               | fails more ↦
                   let comma = not_last s start more in
-                  let rest = followed_refused (there start) (clauses_from room s x.part.next) (sym (step_more s start room x refl read more) ∙ e) in
-                  row_from room (suc count) (comma_after s start + 1) n p (omega arith) (Begun.after_comma count start b (there_faultless start read) comma)
+                  let rest = followed_refused c (clauses_from room s x.part.next) (sym (step_more s start room x refl c read more) ∙ e) in
+                  row_from room (suc count) (comma_after s start + 1) n p (omega arith) (Begun.after_comma count start b (there_faultless start c read) comma)
                   (rw (goes_on s start comma).1 at rest)
             ]
       ]

@@ -1,5 +1,7 @@
 -- The ways of `part_at` and of `step_at`.
 -- Assumes nothing.
+use Rattle.answers.specs.declared.Refusal.{Refusal}
+use Rattle.std.specs.Prelude.{Result}
 use mathlib.Core.Path.{◌≡◌}
 use mathlib.Core.Bool.{true, false}
 use mathlib.Core.List.{List, []}
@@ -10,11 +12,9 @@ use lib.Seq.{take-nil}
 use borrow.Author.Tests.{le-leb, lt-leb}
 use Rattle.chars.specs.Scan.{index_of}
 use Rattle.chars.specs.Class.{between, front}
-use Rattle.chars.proofs.Cases.{yes_lt, no_lt}
 use Rattle.list_clauses.specs.declared.clause.Clause.{Clause}
 use Rattle.list_clauses.specs.declared.step.Part.{Part}
 use Rattle.list_clauses.specs.Trim.{trimmed_length}
-use Rattle.list_clauses.specs.Clause.{refused_clause, clause_of}
 use Rattle.list_clauses.specs.Step.{bytes_in, comma_after, part_end, part_start, part_at, clause_between, clause_in, step_at, PartIs}
 
 -- past the end there is no comma and no byte
@@ -92,16 +92,8 @@ module _ (s : List ℕ) (start comma n m : ℕ) (e : comma ≡ start + index_of 
     within = omega arith;
   }
 
--- the ways of `clause_between`
-pub clause_of_long : (s : List ℕ) (start from to : ℕ) (q : Clause) → 1024 < length s → q ≡ refused_clause 8 1024 → q ≡ clause_between s start from to
-clause_of_long s start from to q h e = yes_lt 1024 (length s) _ h e
-
-pub clause_there : (s bytes : List ℕ) (start from to : ℕ) (q : Clause) → length s ≤ 1024 → bytes ≡ bytes_in s from to → q ≡ clause_of bytes start from →
-    q ≡ clause_between s start from to
-clause_there s bytes start from to q short e f = no_lt 1024 (length s) _ short (rw (← e) f)
-
 -- a clause between the ends of its part
-pub step_made : (s : List ℕ) (start : ℕ) (p : Part) (c : Clause) → p ≡ part_at s start → c ≡ clause_between s start p.from p.to →
+pub step_made : (s : List ℕ) (start : ℕ) (p : Part) (c : Result Clause Refusal) → p ≡ part_at s start → c ≡ clause_between s start p.from p.to →
     record { clause = c; part = p } ≡ step_at s start
 unfolding part_at clause_in step_at
 step_made s start p c e f = let there : c ≡ clause_in s start = rw e at f in λ i. record { clause = there i; part = e i }

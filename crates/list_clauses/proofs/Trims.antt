@@ -1,51 +1,42 @@
--- Trailing blanks: one step of the loop.
+-- A text ends with the last byte that is no blank.
 -- Assumes nothing.
 use mathlib.Core.Path.{◌≡◌, refl, sym, ◌∙◌}
 use mathlib.Core.Bool.{Bool, true, false}
-use mathlib.Core.List.{List, [], ◌∷◌, ◌++◌}
-use Prim.Native.Nat.{ℕ, suc, ◌-◌, ◌≤◌, ◌<◌}
+use mathlib.Core.List.{List, [], ◌∷◌}
+use Prim.Native.Nat.{ℕ, zero, suc, ◌+◌, ◌<◌}
 use native.Mathlib.Omega.{arith}
 use lib.Dec.{eqb}
-use lib.ListN.{length, get_or, take}
-use lib.Seq.{take-suc, length-take-le}
+use lib.ListN.{length, get_or}
 use borrow.Author.Tests.{eq-eqb, ne_eqb}
+use Rattle.std.specs.Option.{MatchOption}
+use Rattle.std.specs.declared.option.Option.{Option}
+use Rattle.std.specs.declared.option.Option.TheVariants.{None, Some}
 use Rattle.chars.specs.Class.{class_of, blank}
-use Rattle.list_clauses.specs.Trim.{kept, trimmed_length}
+use Rattle.list_clauses.specs.Trim.{Trimmed, kept, trimmed_length}
 
 kept_some : (t : Bool) (n : ℕ) → kept t (suc n) ≡ suc (suc n)
 kept_some true n = rw (ne_eqb (suc n) 0 (λ q. omega arith))
 kept_some false n = refl
 
--- a blank at the end goes, and any other byte keeps all before it
-trim_blank : (s : List ℕ) (b : ℕ) → class_of b ≡ blank → trimmed_length (s ++ (b ∷ [])) ≡ trimmed_length s
+all_blank : (s : List ℕ) → ((k : ℕ) → k < length s → class_of (get_or s k 0) ≡ blank) → trimmed_length s ≡ 0
 unfolding trimmed_length
-trim_blank [] b e = rw (eq-eqb _ _ e)
-trim_blank (a ∷ s) b e = rw (trim_blank s b e)
+all_blank [] f = refl
+all_blank (b ∷ s) f = rw (all_blank s (λ k h. f (suc k) (omega arith)), eq-eqb _ _ (f 0 (omega arith)))
 
-trim_other : (s : List ℕ) (b : ℕ) → (class_of b ≡ blank → ⊥) → trimmed_length (s ++ (b ∷ [])) ≡ suc (length s)
+-- the last byte that is no blank stands at i
+kept_to : (s : List ℕ) (i : ℕ) → i < length s → (class_of (get_or s i 0) ≡ blank → ⊥) → ((k : ℕ) → i < k → k < length s → class_of (get_or s k 0) ≡ blank) → trimmed_length s ≡ suc i
 unfolding trimmed_length
-trim_other [] b e = rw (ne_eqb _ _ e)
-trim_other (a ∷ s) b e = rw (trim_other s b e) (kept_some (eqb (class_of a) blank) (length s))
+kept_to [] i h g f = absurd (omega arith)
+kept_to (b ∷ s) zero h g f = rw (all_blank s (λ k m. f (suc k) (omega arith) (omega arith)), ne_eqb _ _ g)
+kept_to (b ∷ s) (suc i) h g f =
+    rw (kept_to s i (omega arith) g (λ k m n. f (suc k) (omega arith) (omega arith))) (kept_some (eqb (class_of b) blank) i)
 
--- the ways of `trimmed_len`: the first n bytes are looked at, the last of them of class r
-module _ (s : List ℕ) (n r : ℕ) (same : trimmed_length (take n s) ≡ trimmed_length s) (few : n ≤ length s) (some : 0 < n) (e : r ≡ class_of (get_or s (n - 1) 0)) where
-  last_byte : take n s ≡ take (n - 1) s ++ (get_or s (n - 1) 0 ∷ [])
-  last_byte =
-      let one : n ≡ suc (n - 1) = omega arith in
-      let step : take (suc (n - 1)) s ≡ take (n - 1) s ++ (get_or s (n - 1) 0 ∷ []) = take-suc s (n - 1) 0 (omega arith) in
-      rw (← one) at step
+-- where the last byte stands that is no blank
+abbrev pub LastKept : List ℕ → Option ℕ → Type 0
+LastKept s last =
+    MatchOption last ((k : ℕ) → k < length s → class_of (get_or s k 0) ≡ blank)
+    (λ i. (i < length s) × (class_of (get_or s i 0) ≡ blank → ⊥) × ((k : ℕ) → i < k → k < length s → class_of (get_or s k 0) ≡ blank))
 
-  pub trim_stops : (r ≡ 1 → ⊥) → n ≡ trimmed_length s
-  trim_stops f =
-      let all : trimmed_length (take n s) ≡ suc (length (take (n - 1) s)) = rw last_byte (trim_other (take (n - 1) s) _ (λ q. f (e ∙ q))) in
-      let size : length (take (n - 1) s) ≡ n - 1 = length-take-le (n - 1) s (omega arith) in
-      omega arith
-
-  pub trim_goes_on : r ≡ 1 → trimmed_length (take (n - 1) s) ≡ trimmed_length s
-  trim_goes_on f =
-      let less : trimmed_length (take n s) ≡ trimmed_length (take (n - 1) s) = rw last_byte (trim_blank (take (n - 1) s) _ (sym e ∙ f)) in
-      sym less ∙ same
-
-pub trim_none : (s : List ℕ) (n : ℕ) → trimmed_length (take n s) ≡ trimmed_length s → n ≤ 0 → 0 ≡ trimmed_length s
-unfolding trimmed_length
-trim_none s n same h = let z : n ≡ 0 = omega arith in rw z at same
+pub trimmed_to : (s : List ℕ) (last : Option ℕ) (r : ℕ) → LastKept s last → MatchOption last (r ≡ 0) (λ i. r ≡ i + 1) → Trimmed s r
+trimmed_to s None r f e = record { is = e ∙ sym (all_blank s f); within = omega arith }
+trimmed_to s (Some i) r f e = record { is = omega (arith, kept_to s i f.0 f.1 f.2); within = omega (arith, f.0) }

@@ -1,35 +1,25 @@
 -- One clause: refusals 12 to 16 and the pattern's own, in their order.
-use Rattle.std.specs.Prelude.{◌≡◌, Bool, false, cond, List, ℕ, ◌+◌, ◌≤◌, eqb, length, drop}
+use Rattle.std.specs.Prelude.{◌≡◌, Bool, false, cond, List, ℕ, ◌+◌, ◌≤◌, eqb, length, drop, Option, Some, None, Result, Ok, Err, IfOk}
+use Rattle.answers.specs.declared.Refusal.{Refusal}
+use Rattle.answers.specs.Refusal.{refusal}
 use Rattle.version_parts.specs.declared.fields.Version.{Version}
 use Rattle.version_reading.specs.declared.text.Verdict.{Verdict}
 use Rattle.version_reading.specs.declared.text.Verdict.TheVariants.{Accepted, Refused}
 use Rattle.version_reading.specs.declared.text.PatternReading.{PatternReading}
 use Rattle.version_reading.specs.Reading.{pattern_of}
-use Rattle.version_parts.specs.Fields.{no_version}
 use Rattle.list_clauses.specs.declared.operator.Operator.{Operator}
 use Rattle.list_clauses.specs.declared.operator.Operator.TheVariants.{Equal, NotEqual, Compatible, AtMost, AtLeast, Below, Above}
-use Rattle.list_clauses.specs.declared.operator.OperatorAt.{OperatorAt}
-use Rattle.list_clauses.specs.declared.operator.OperatorAt.TheVariants.{Found, Missing}
 use Rattle.list_clauses.specs.declared.clause.Clause.{Clause}
 use Rattle.list_clauses.specs.Operator.{operator_of}
 
-abbrev pub refused_clause : ℕ → ℕ → Clause
-refused_clause number place = record {
-  refusal = number;
-  place = place;
-  operator = Equal;
-  wildcard = false;
-  version = no_version;
-}
+abbrev pub refused_clause : ℕ → ℕ → Result Clause Refusal
+refused_clause number place = Err (refusal number place)
 
-abbrev pub read_clause : Operator → Bool → Version → Clause
-read_clause operator wildcard version = record {
-  refusal = 0;
-  place = 0;
-  operator = operator;
-  wildcard = wildcard;
-  version = version;
-}
+abbrev pub clause_with : Operator → Bool → Version → Clause
+clause_with operator wildcard version = record { operator = operator; wildcard = wildcard; version = version }
+
+abbrev pub read_clause : Operator → Bool → Version → Result Clause Refusal
+read_clause operator wildcard version = Ok (clause_with operator wildcard version)
 
 -- a wildcard after an operator other than `==` and `!=`
 abbrev pub stray_wildcard : Operator → Bool → Bool
@@ -52,7 +42,7 @@ too_short_for Below count = false
 too_short_for Above count = false
 
 -- 14, then 15, then 16, placed after the operator
-unfoldable pub judged : Operator → Bool → Version → ℕ → Clause
+unfoldable pub judged : Operator → Bool → Version → ℕ → Result Clause Refusal
 judged operator wildcard version place =
     cond (stray_wildcard operator wildcard)
     (refused_clause 14 place)
@@ -61,23 +51,23 @@ judged operator wildcard version place =
     (refused_clause 15 place))
 
 -- the pattern's own refusal comes first, its place counted in the list
-abbrev pub pattern_judged : Operator → ℕ → PatternReading → Verdict → Clause
+abbrev pub pattern_judged : Operator → ℕ → PatternReading → Verdict → Result Clause Refusal
 pattern_judged operator place read Accepted = judged operator read.wildcard read.version place
 pattern_judged operator place read (Refused refusal) = refused_clause refusal.number (place + refusal.place)
 
-unfoldable pub pattern_clause : Operator → List ℕ → ℕ → Clause
+unfoldable pub pattern_clause : Operator → List ℕ → ℕ → Result Clause Refusal
 pattern_clause operator text place = pattern_judged operator place (pattern_of text) (pattern_of text).verdict
 
 -- the operator stands in front of the clause's bytes, and the pattern after it
-abbrev pub operator_clause : List ℕ → ℕ → OperatorAt → Clause
-operator_clause bytes from (Found operator width) = pattern_clause operator (drop width bytes) (from + width)
-operator_clause bytes from Missing = refused_clause 13 from
+abbrev pub operator_clause : List ℕ → ℕ → Option (Operator × ℕ) → Result Clause Refusal
+operator_clause bytes from (Some (operator, width)) = pattern_clause operator (drop width bytes) (from + width)
+operator_clause bytes from None = refused_clause 13 from
 
 -- the clause that starts there, by its bytes without outer blanks, which stand at `from`
-unfoldable pub clause_of : List ℕ → ℕ → ℕ → Clause
+unfoldable pub clause_of : List ℕ → ℕ → ℕ → Result Clause Refusal
 clause_of bytes start from = cond (eqb (length bytes) 0) (refused_clause 12 start) (operator_clause bytes from (operator_of bytes))
 
 -- what a caller may count on beside the equation
-pub record ClauseIs (spec r : Clause) : Type 0 where
+pub record ClauseIs (spec r : Result Clause Refusal) : Type 0 where
   pub is : r ≡ spec
-  pub few : r.version.release.len ≤ 16
+  pub few : IfOk r (λ c. c.version.release.len ≤ 16)

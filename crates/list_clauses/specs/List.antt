@@ -1,11 +1,11 @@
 -- Lists of clauses: refusals 8 and 17, and the first clause's that is refused.
-use Rattle.std.specs.Prelude.{cond, List, [], ◌∷◌, ℕ, zero, suc, eqb, ltb, length}
+use Rattle.answers.specs.declared.Refusal.{Refusal}
+use Rattle.std.specs.Prelude.{cond, List, [], ◌∷◌, ℕ, zero, suc, eqb, ltb, length, Result, Ok, Err}
 use Rattle.answers.specs.Refusal.{refusal}
-use Rattle.answers.specs.declared.Measured.{Measured}
-use Rattle.answers.specs.declared.Measured.TheVariants.{Length, Refused}
 use Rattle.chars.specs.Class.{blank, between, front}
 use Rattle.version_reading.specs.Reading.{longest}
 use Rattle.list_clauses.specs.declared.clause.Clause.{Clause}
+use Rattle.list_clauses.specs.declared.step.Part.{Part}
 use Rattle.list_clauses.specs.declared.step.Step.{Step}
 use Rattle.list_clauses.specs.Step.{step_at}
 
@@ -19,12 +19,13 @@ abbrev pub followed : Clause → Listing → Listing
 followed c (refused n p) = refused n p
 followed c (clauses cs) = clauses (c ∷ cs)
 
--- a step that was made, and what is said from the next place on
+-- a clause at its part of the list, and what is said from the next place on
+abbrev pub listing_of : (ℕ → Listing) → Part → Result Clause Refusal → Listing
+listing_of more part (Ok c) = cond part.last (clauses (c ∷ [])) (followed c (more part.next))
+listing_of more part (Err x) = refused x.number x.place
+
 abbrev pub listing : (ℕ → Listing) → Step → Listing
-listing more step =
-    cond (eqb step.clause.refusal 0)
-    (cond step.part.last (clauses (step.clause ∷ [])) (followed step.clause (more step.part.next)))
-    (refused step.clause.refusal step.clause.place)
+listing more step = listing_of more step.part step.clause
 
 -- the clauses from a place on, with room for that many
 unfoldable pub clauses_from : ℕ → List ℕ → ℕ → Listing
@@ -38,9 +39,9 @@ list_of s =
     (cond (eqb (front (between blank blank) s) (length s)) (clauses []) (clauses_from 16 s 0))
 
 -- how many clauses there are
-abbrev pub count_of : Listing → Measured
-count_of (refused number place) = Refused (refusal number place)
-count_of (clauses cs) = Length (length cs)
+abbrev pub count_of : Listing → Result ℕ Refusal
+count_of (refused number place) = Err (refusal number place)
+count_of (clauses cs) = Ok (length cs)
 
-unfoldable pub checked : List ℕ → Measured
+unfoldable pub checked : List ℕ → Result ℕ Refusal
 checked s = count_of (list_of s)

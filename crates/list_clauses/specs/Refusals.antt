@@ -1,12 +1,11 @@
 -- The table of refusals for lists, row by row: when 8, 12 to 17 and those of a pattern are due, and where.
-use Rattle.std.specs.Prelude.{◌≡◌, true, false, List, ℕ, suc, ◌+◌, ◌≤◌, ◌<◌, length, drop}
+use Rattle.std.specs.Prelude.{◌≡◌, true, false, List, ℕ, suc, ◌+◌, ◌≤◌, ◌<◌, length, drop, Some, None}
 use Rattle.chars.specs.Class.{blank, between, front}
 use Rattle.version_reading.specs.declared.text.Verdict.TheVariants.{Accepted}
 use Rattle.version_reading.specs.declared.text.PatternReading.{PatternReading}
 use Rattle.version_reading.specs.Reading.{longest, pattern_of}
 use Rattle.version.specs.Refusals.{Fault as PatternFault}
 use Rattle.list_clauses.specs.declared.operator.Operator.{Operator}
-use Rattle.list_clauses.specs.declared.operator.OperatorAt.TheVariants.{Found, Missing}
 use Rattle.list_clauses.specs.Operator.{operator_of}
 use Rattle.list_clauses.specs.Clause.{stray_wildcard, too_short_for}
 use Rattle.list_clauses.specs.Step.{comma_after, part_start, part_bytes}
@@ -14,7 +13,7 @@ use Rattle.list_clauses.specs.Step.{comma_after, part_start, part_bytes}
 -- an operator stands in front of the bytes t, and its pattern after that many bytes
 pub record OperatorRead (t : List ℕ) (operator : Operator) (width : ℕ) : Type 0 where
   pub some : length t ≡ 0 → ⊥
-  pub found : operator_of t ≡ Found operator width
+  pub found : operator_of t ≡ Some (operator, width)
 
 -- the pattern was read, by its own rules
 pub record PatternRead (t : List ℕ) (operator : Operator) (width : ℕ) (pattern : PatternReading) : Type 0 where
@@ -27,7 +26,7 @@ pub data Fault (t : List ℕ) (start from : ℕ) : ℕ → ℕ → Type 0 where
   -- an empty clause
   empty : length t ≡ 0 → Fault t start from 12 start
   -- no operator, or `===`
-  no_operator : (length t ≡ 0 → ⊥) → operator_of t ≡ Missing → Fault t start from 13 from
+  no_operator : (length t ≡ 0 → ⊥) → operator_of t ≡ None → Fault t start from 13 from
   -- the pattern's own
   in_pattern : (operator : Operator) (width number place : ℕ) → OperatorRead t operator width → PatternFault true (drop width t) number place →
       Fault t start from number (from + width + place)

@@ -1,5 +1,6 @@
 -- One step over a list: the clause that starts at a place, its part of the list, and where the next one starts. Clauses stand between commas.
-use Rattle.std.specs.Prelude.{◌≡◌, cond, List, [], ◌∷◌, ◌++◌, ℕ, zero, suc, ◌+◌, ◌-◌, ◌≤◌, max, leb, ltb, length, take, drop}
+use Rattle.std.specs.Prelude.{◌≡◌, cond, List, [], ◌∷◌, ◌++◌, ℕ, zero, suc, ◌+◌, ◌-◌, ◌≤◌, max, leb, ltb, length, take, drop, Result, Ok, Err, IfOk}
+use Rattle.answers.specs.declared.Refusal.{Refusal}
 use Prim.Native.Char.{code}
 use Rattle.chars.specs.Scan.{index_of}
 use Rattle.chars.specs.Class.{blank, between, front}
@@ -37,10 +38,10 @@ part_at s start =
     record { from = part_start s start; to = part_end s start; next = cond last comma (comma + 1); last = last }
 
 -- a clause by its place, of a list that is not too long
-abbrev pub clause_between : List ℕ → ℕ → ℕ → ℕ → Clause
+abbrev pub clause_between : List ℕ → ℕ → ℕ → ℕ → Result Clause Refusal
 clause_between s start from to = cond (ltb longest (length s)) (refused_clause 8 longest) (clause_of (bytes_in s from to) start from)
 
-unfoldable pub clause_in : List ℕ → ℕ → Clause
+unfoldable pub clause_in : List ℕ → ℕ → Result Clause Refusal
 clause_in s start = clause_between s start (part_start s start) (part_end s start)
 
 unfoldable pub step_at : List ℕ → ℕ → Step
@@ -56,15 +57,20 @@ pub record PartIs (s : List ℕ) (start : ℕ) (r : Part) : Type 0 where
 
 pub record StepIs (s : List ℕ) (start : ℕ) (r : Step) : Type 0 where
   pub is : r ≡ step_at s start
-  pub few : r.clause.version.release.len ≤ 16
+  pub few : IfOk r.clause (λ c. c.version.release.len ≤ 16)
   pub onward : start ≤ r.part.next
   pub within : r.part.next ≤ max start (length s)
 
--- where the clause starts that has i before it, and the first i clauses
+-- a clause, if it was read
+abbrev pub read_there : Result Clause Refusal → List Clause
+read_there (Ok c) = c ∷ []
+read_there (Err x) = []
+
+-- where the clause starts that has i before it, and the first i clauses, as far as they were read
 unfoldable pub start_at : List ℕ → ℕ → ℕ
 start_at s zero = 0
 start_at s (suc i) = (part_at s (start_at s i)).next
 
 unfoldable pub first_clauses : List ℕ → ℕ → List Clause
 first_clauses s zero = []
-first_clauses s (suc i) = first_clauses s i ++ (clause_in s (start_at s i) ∷ [])
+first_clauses s (suc i) = first_clauses s i ++ read_there (clause_in s (start_at s i))

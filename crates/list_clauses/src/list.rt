@@ -3,48 +3,39 @@ ghost use Rattle.std.specs.Prelude.{◌≡◌};
 ghost use Rattle.list_clauses.specs.List.{clauses_from, count_of, checked};
 
 use crate::step::step_at;
-use answers::{Measured, Refusal};
+use answers::Refusal;
 use chars::class;
 
-fn check_clauses(list: &[u8]) -> Measured
+fn check_clauses(list: &[u8]) -> Result<usize, Refusal>
     ensures { result ≡ count_of (clauses_from 16 list.now 0) }
 {
-    let mut count = 0;
     let mut start = 0;
-    loop {
-        if count == 16 {
-            return Measured::Refused(Refusal {
-                number: 17,
-                place: start,
-            });
-        }
+    for count in 0..16 {
         let read = step_at(list, start);
-        if read.clause.refusal != 0 {
-            return Measured::Refused(Refusal {
-                number: read.clause.refusal,
-                place: read.clause.place,
-            });
-        }
-        count += 1;
+        read.clause?;
         if read.part.last {
-            return Measured::Length(count);
+            return Ok(count + 1);
         }
         start = read.part.next;
     }
+    Err(Refusal {
+        number: 17,
+        place: start,
+    })
 }
 
 // How many clauses a list has. Blanks alone, or no byte, are a list of none.
-pub fn check(list: &[u8]) -> Measured
+pub fn check(list: &[u8]) -> Result<usize, Refusal>
     ensures { result ≡ checked list.now }
 {
     if 1024 < list.len() {
-        return Measured::Refused(Refusal {
+        return Err(Refusal {
             number: 8,
             place: 1024,
         });
     }
     if class::run(list, class::BLANK, class::BLANK) == list.len() {
-        return Measured::Length(0);
+        return Ok(0);
     }
     check_clauses(list)
 }

@@ -14,15 +14,8 @@ pub enum Operator {
     Above,
 }
 
-// An operator at the front of a text, and its length.
-#[derive(Clone, Copy)]
-pub enum OperatorAt {
-    Found(Operator, usize),
-    Missing,
-}
-
 // `===` is no operator here. A byte past the end is 0, which stands in none.
-pub fn find_operator(rest: &[u8]) -> OperatorAt
+pub fn find_operator(rest: &[u8]) -> Option<(Operator, usize)>
     ensures { Operated rest.now (operator_of rest.now) result }
 {
     if byte_at(rest, 1) != b'=' {
@@ -31,38 +24,38 @@ pub fn find_operator(rest: &[u8]) -> OperatorAt
     let first = byte_at(rest, 0);
     if first == b'=' {
         if byte_at(rest, 2) == b'=' {
-            return OperatorAt::Missing;
+            return None;
         }
-        return OperatorAt::Found(Operator::Equal, 2);
+        return Some((Operator::Equal, 2));
     }
     if first == b'!' {
-        return OperatorAt::Found(Operator::NotEqual, 2);
+        return Some((Operator::NotEqual, 2));
     }
     if first == b'~' {
-        return OperatorAt::Found(Operator::Compatible, 2);
+        return Some((Operator::Compatible, 2));
     }
     find_order(rest)
 }
 
 // The two bytes of `<=` and `>=` come before their own beginnings.
-fn find_order(rest: &[u8]) -> OperatorAt
+fn find_order(rest: &[u8]) -> Option<(Operator, usize)>
     ensures { Operated rest.now (order_of rest.now) result }
 {
     let first = byte_at(rest, 0);
     if byte_at(rest, 1) == b'=' {
         if first == b'<' {
-            return OperatorAt::Found(Operator::AtMost, 2);
+            return Some((Operator::AtMost, 2));
         }
         if first == b'>' {
-            return OperatorAt::Found(Operator::AtLeast, 2);
+            return Some((Operator::AtLeast, 2));
         }
-        return OperatorAt::Missing;
+        return None;
     }
     if first == b'<' {
-        return OperatorAt::Found(Operator::Below, 1);
+        return Some((Operator::Below, 1));
     }
     if first == b'>' {
-        return OperatorAt::Found(Operator::Above, 1);
+        return Some((Operator::Above, 1));
     }
-    OperatorAt::Missing
+    None
 }

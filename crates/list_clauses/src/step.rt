@@ -3,8 +3,9 @@ ghost use Rattle.std.specs.Prelude.{◌≤◌, max, length};
 ghost use Rattle.list_clauses.specs.Clause.{ClauseIs};
 ghost use Rattle.list_clauses.specs.Step.{PartIs, StepIs, clause_between};
 
-use crate::clause::{Clause, read_clause, refused};
+use crate::clause::{Clause, read_clause};
 use crate::trim::trimmed_len;
+use answers::Refusal;
 use chars::class;
 use chars::place::part;
 use chars::scan::find;
@@ -20,7 +21,7 @@ pub struct Part {
 
 #[derive(Clone, Copy)]
 pub struct Step {
-    pub clause: Clause,
+    pub clause: Result<Clause, Refusal>,
     pub part: Part,
 }
 
@@ -56,12 +57,15 @@ pub fn part_at(list: &[u8], start: usize) -> Part
 }
 
 // The clause that starts at `start`, and whose bytes are those from `from` to `to`.
-fn clause_between(list: &[u8], start: usize, from: usize, to: usize) -> Clause
+fn clause_between(list: &[u8], start: usize, from: usize, to: usize) -> Result<Clause, Refusal>
     requires { (from ≤ to) × (to ≤ max from (length list.now)) }
     ensures { ClauseIs (clause_between list.now start from to) result }
 {
     if 1024 < list.len() {
-        return refused(8, 1024);
+        return Err(Refusal {
+            number: 8,
+            place: 1024,
+        });
     }
     read_clause(part(list, from, to), start, from)
 }

@@ -7,12 +7,7 @@ use chars::class;
 pub(crate) fn trimmed_len(s: &[u8]) -> usize
     ensures { Trimmed s.now result }
 {
-    let mut n = s.len();
-    while 0 < n {
-        if class::class_by_ranges(s[n - 1]) != class::BLANK {
-            return n;
-        }
-        n -= 1;
-    }
-    0
+    s.iter()
+        .rposition(|b| class::class_by_ranges(*b) != class::BLANK)
+        .map_or(0, |last| last + 1)
 }

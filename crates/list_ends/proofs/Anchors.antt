@@ -1,13 +1,12 @@
 -- Worked points of the ends that clauses give, by computation: they anchor the definitions.
 -- Assumes nothing.
+use Rattle.std.specs.Prelude.{None}
 use mathlib.Core.Path.{◌≡◌, refl}
 use mathlib.Core.Bool.{Bool, true, false}
 use mathlib.Core.List.{List, [], ◌∷◌}
 use Prim.Native.Nat.{ℕ}
 use Rattle.ranges.specs.Cut.{top, before, after}
 use Rattle.ranges.specs.Shape.{accepts}
-use Rattle.version_parts.specs.declared.fields.Pre.TheVariants.{Absent as NoPre}
-use Rattle.version_parts.specs.declared.fields.MaybeNumber.TheVariants.{Absent as NoPart}
 use Rattle.version_reading.specs.Value.{Value}
 use Rattle.decimal.specs.Parse.{largest}
 use Rattle.version_order.specs.Versions.{compare_release, compare_key, compare_public}
@@ -19,7 +18,7 @@ use Rattle.list_ends.specs.Ends.{first_place, second_place}
 use Rattle.list_ends.specs.Shape.{shape_of}
 
 abbrev plain : ℕ → List ℕ → Value
-plain epoch release = record { epoch = epoch; release = release; pre = NoPre; post = NoPart; dev = NoPart; label = [] }
+plain epoch release = record { epoch = epoch; release = release; pre = None; post = None; dev = None; label = [] }
 
 abbrev starts : Operator → Bool → ℕ → List ℕ → Place
 starts o wildcard epoch release = first_place o wildcard (plain epoch release)

@@ -1,5 +1,6 @@
 -- The ways of the functions that give a clause's ends.
 -- Assumes nothing.
+use Rattle.std.specs.Prelude.{None, Some}
 use mathlib.Core.Path.{◌≡◌, refl, ◌∙◌, ap}
 use mathlib.Core.Bool.{Bool, true, false}
 use mathlib.Core.List.{[]}
@@ -10,7 +11,6 @@ use lib.Seq.{take-take}
 use Rattle.ranges.specs.Cut.{bot, top, before}
 use Rattle.version_parts.specs.declared.fields.Version.{Version}
 use Rattle.version_reading.specs.Value.{Value, value_of}
-use Rattle.version_prefix.specs.declared.next.Next.{Next}
 use Rattle.version_prefix.specs.Next.{start_fields, next_fields}
 use Rattle.version_prefix.specs.Prefix.{cut_to, shorter, prefix_end}
 use Rattle.list_clauses.specs.declared.operator.Operator.{Operator}
@@ -19,7 +19,7 @@ use Rattle.list_ends.specs.declared.end.End.{End}
 use Rattle.list_ends.specs.Cut.{Place}
 use Rattle.list_ends.specs.End.{place_at, bottom, topmost, most, EndIs}
 use Rattle.list_ends.specs.Ends.{ends_before, match_end, equal_start, equal_end, first_place, second_place}
-use Rattle.list_ends.proofs.Nexts.{next_value, start_says, next_says, next_few}
+use Rattle.list_ends.proofs.Nexts.{next_value, start_says, next_says, next_count, next_few}
 
 -- below all and above all
 pub made_bottom : (room : ℕ) (r : End) → r ≡ bottom → EndIs bot room r
@@ -32,19 +32,20 @@ made_topmost room r e = rw e (record { is = refl; few = omega arith; size = refl
 pub elsewhere : {p : Place} {room : ℕ} {r : End} (q : Place) (other : ℕ) → EndIs p room r → p ≡ q → room ≤ other → EndIs q other r
 elsewhere q other h e k = record { is = h.is ∙ e; few = omega (arith, h.few); size = h.size }
 
--- n is what `match_end` gives
-module _ (v : Version) (count : ℕ) (n : Next) (r : End) (size : length v.release.numbers ≡ 16) (h : count ≤ v.release.len)
-    (e : n ≡ next_fields v.epoch v.release (min count 16)) where
-  says : next_value n ≡ prefix_end (cut_to count (value_of [] v))
-  says = rw e (next_says v count size h)
+-- what `match_end` gives
+module _ (v : Version) (count : ℕ) (r : End) (size : length v.release.numbers ≡ 16) (h : count ≤ v.release.len) where
+  says : next_value (next_fields v.epoch v.release (min count 16)) ≡ prefix_end (cut_to count (value_of [] v))
+  says = next_says v count size h
 
-  pub has_next : n.exists ≡ true → EndIs (place_at Before n.version) (most n.version) r → EndIs (match_end (cut_to count (value_of [] v))) (most v) r
-  has_next f g =
-      let few : n.version.release.len ≤ 16 = rw e (next_few v.epoch v.release (min count 16) (omega arith)) in
-      elsewhere _ _ g (ap ends_before (rw f at says)) (omega arith)
+  pub has_next : (q : Version) → Some q ≡ next_fields v.epoch v.release (min count 16) → EndIs (place_at Before q) (most q) r →
+      EndIs (match_end (cut_to count (value_of [] v))) (most v) r
+  has_next q e g =
+      let known : next_count (next_fields v.epoch v.release (min count 16)) ≤ 16 = next_few v.epoch v.release (min count 16) (omega arith) in
+      let few : q.release.len ≤ 16 = rw (← e) at known in
+      elsewhere _ _ g (ap ends_before (rw (← e) at says)) (omega arith)
 
-  pub has_no_next : n.exists ≡ false → r ≡ topmost → EndIs (match_end (cut_to count (value_of [] v))) (most v) r
-  has_no_next f g = elsewhere _ _ (made_topmost (most v) r g) (ap ends_before (rw f at says)) (omega arith)
+  pub has_no_next : None ≡ next_fields v.epoch v.release (min count 16) → r ≡ topmost → EndIs (match_end (cut_to count (value_of [] v))) (most v) r
+  has_no_next e g = elsewhere _ _ (made_topmost (most v) r g) (ap ends_before (rw (← e) at says)) (omega arith)
 
 -- `==V` and `!=V`, without a wildcard and with one
 module _ (wildcard : Bool) (v : Version) (r : End) where

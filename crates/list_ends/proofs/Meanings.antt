@@ -1,8 +1,8 @@
 -- The shape of a clause accepts what the clause does, and is proper.
 -- Assumes nothing.
+use Rattle.std.specs.Prelude.{Option, None, Some}
 use mathlib.Core.Path.{◌≡◌, refl, sym, ◌∙◌, ap}
 use mathlib.Core.Bool.{Bool, true, false, not, ◌&&◌}
-use mathlib.Core.Option.{Option, none, some}
 use mathlib.Mathlib.Data.Bool.Basic.{eq-false_of_not-eq-true'}
 use Prim.Native.Nat.{◌-◌}
 use lib.ListN.{length}
@@ -36,8 +36,8 @@ use Rattle.list_ends.specs.Shape.{shape_of, clause_shape}
 
 -- not past the end of a match
 under_end : (end : Option Value) (w : Value) → not (le_place (ends_before end) (before w)) ≡ ends_above end w
-under_end none w = refl
-under_end (some end) w = ap not (past_before compare_public end w)
+under_end None w = refl
+under_end (Some end) w = ap not (past_before compare_public end w)
 
 -- a test that another one implies
 implied : (p q r : Bool) → (p ≡ true → q ≡ true) → p && r ≡ p && (q && r)

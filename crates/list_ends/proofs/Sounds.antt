@@ -16,11 +16,10 @@ use Rattle.version_roundtrip.proofs.Read.{Said, pattern_said}
 use Rattle.list_clauses.specs.declared.operator.Operator.{Operator}
 use Rattle.list_clauses.specs.declared.operator.Operator.TheVariants.{Compatible}
 use Rattle.list_clauses.specs.declared.clause.Clause.{Clause}
-use Rattle.list_clauses.specs.Clause.{read_clause, too_short_for}
+use Rattle.list_clauses.specs.Clause.{clause_with, too_short_for}
 use Rattle.list_clauses.specs.Step.{first_clauses}
 use Rattle.list_clauses.specs.List.{clauses, list_of}
 use Rattle.list_clauses.proofs.Origins.{Origin, first_origins}
-use Rattle.list_clauses.proofs.Walks.{Read}
 use Rattle.list_clauses.proofs.Lists.{all_read}
 use Rattle.list_ends.specs.Sound.{Sound}
 
@@ -34,7 +33,7 @@ module _ (operator : Operator) (s : List ℕ) (v : Version) (said : Said s v) (s
       let f : v.release.len ≡ 1 → ⊥ = eqb-false _ _ other in
       omega (arith, some)
 
-  read_sound : (wildcard : Bool) → v.local.len ≡ 0 → Sound (read_clause operator wildcard v)
+  read_sound : (wildcard : Bool) → v.local.len ≡ 0 → Sound (clause_with operator wildcard v)
   read_sound wildcard e = record {
     local = e;
     some = some;
@@ -45,21 +44,18 @@ module _ (operator : Operator) (s : List ℕ) (v : Version) (said : Said s v) (s
     two = long_enough;
   }
 
-origin_sound : {c : Clause} → Origin c → Read c → Sound c
-origin_sound (Origin.refused number place h) e = absurd (omega arith)
-origin_sound (Origin.read operator text a l short) e =
+origin_sound : {c : Clause} → Origin c → Sound c
+origin_sound (Origin.read operator text a l short) =
     read_sound operator text (pattern_of text).version (pattern_said text a) short (pattern_of text).wildcard l
 
-all_sound : (cs : List Clause) → All Origin cs → All Read cs → All Sound cs
-all_sound [] o a = tt
-all_sound (c ∷ cs) o a = (origin_sound o.0 a.0, all_sound cs o.1 a.1)
+all_sound : (cs : List Clause) → All Origin cs → All Sound cs
+all_sound [] o = tt
+all_sound (c ∷ cs) o = (origin_sound o.0, all_sound cs o.1)
 
--- the first clauses, if each was read
-pub first_sound : (s : List ℕ) (n : ℕ) → All Read (first_clauses s n) → All Sound (first_clauses s n)
-first_sound s n a = all_sound (first_clauses s n) (first_origins s n) a
+-- the first clauses, as far as they were read
+pub first_sound : (s : List ℕ) (n : ℕ) → All Sound (first_clauses s n)
+first_sound s n = all_sound (first_clauses s n) (first_origins s n)
 
 module _ (s : List ℕ) (cs : List Clause) (e : list_of s ≡ clauses cs) where
   pub clauses_sound : All Sound cs
-  clauses_sound =
-      let all = all_read s cs e in
-      rw all.are (first_sound s (length cs) (rw all.are at all.read))
+  clauses_sound = rw (all_read s cs e).are (first_sound s (length cs))

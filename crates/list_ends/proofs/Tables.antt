@@ -1,9 +1,9 @@
 -- The ranges of a list of clauses: they are its table, and say what the clauses say.
 -- Assumes nothing.
+use Rattle.std.specs.Prelude.{None}
 use mathlib.Core.Path.{◌≡◌, refl, ◌∙◌, ap₂}
 use mathlib.Core.Bool.{Bool, true, false, ◌&&◌, cond}
 use mathlib.Core.List.{List, [], ◌∷◌, map}
-use mathlib.Core.Option.{none}
 use Prim.Native.Nat.{ℕ, suc, ◌≤◌}
 use native.Mathlib.Omega.{arith}
 use lib.ListN.{length}
@@ -72,7 +72,7 @@ module _ (cs : List Clause) where
   unfolding ranges_of
   ranges_only = one_table place_preorder place_bounded (map clause_shape cs) (all_proper cs)
 
-  pub ranges_ascend : Asc le_place none (ranges_of cs)
+  pub ranges_ascend : Asc le_place None (ranges_of cs)
   ranges_ascend = ranges_are.ascends
 
   -- a stretch that all clauses accept lies inside one range

@@ -1,9 +1,9 @@
 -- The versions at the ends of a sound clause can be written: its own, the start of what it matches, and the next prefix.
 -- Assumes nothing.
+use Rattle.std.specs.Prelude.{Option, None, Some}
 use mathlib.Core.Path.{◌≡◌, refl}
 use mathlib.Core.Bool.{Bool, true, false}
 use mathlib.Core.List.{List, [], ◌∷◌}
-use mathlib.Core.Option.{Option, none, some}
 use Prim.Native.Nat.{ℕ, suc, ◌-◌, ◌≤◌}
 use native.Mathlib.Omega.{arith}
 use lib.Dec.{eqb}
@@ -41,12 +41,12 @@ record Numbers (most : ℕ) (l : List ℕ) : Type 0 where
   few : length l ≤ most
 
 abbrev NextFits : ℕ → Option (List ℕ) → Type 0
-NextFits most none = Unit {0}
-NextFits most (some l) = Numbers most l
+NextFits most None = Unit {0}
+NextFits most (Some l) = Numbers most l
 
 raised_fits : (x most : ℕ) (n : Option (List ℕ)) → Fits x → NextFits most n → NextFits (suc most) (raised x n)
-raised_fits x most (some l) fit r = record { fits = (fit, r.fits); some = omega arith; few = omega (arith, r.few) }
-raised_fits x most none fit r =
+raised_fits x most (Some l) fit r = record { fits = (fit, r.fits); some = omega arith; few = omega (arith, r.few) }
+raised_fits x most None fit r =
     by_cond (NextFits (suc most)) (eqb x largest) (λ e. tt)
     (λ e. let other : x ≡ largest → ⊥ = eqb-false x largest e in
     record { fits = (omega arith, tt); some = omega arith; few = omega arith })
@@ -73,9 +73,9 @@ dev_zero_writable epoch release fit r = record {
 
 carried_writable : (epoch most : ℕ) (n : Option (List ℕ)) → Fits epoch → most ≤ 16 → NextFits most n →
     Holds (ends_before (zeroed (carried epoch n)))
-carried_writable epoch most (some l) fit room r =
+carried_writable epoch most (Some l) fit room r =
     dev_zero_writable epoch l fit (record { fits = r.fits; some = r.some; few = omega (arith, r.few) })
-carried_writable epoch most none fit room r =
+carried_writable epoch most None fit room r =
     by_cond (λ p. Holds (ends_before (zeroed p))) (eqb epoch largest) (λ e. tt)
     (λ e. let other : epoch ≡ largest → ⊥ = eqb-false epoch largest e in
     dev_zero_writable (suc epoch) (0 ∷ []) (omega arith) (record { fits = (omega arith, tt); some = omega arith; few = omega arith }))

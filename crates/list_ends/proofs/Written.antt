@@ -1,9 +1,9 @@
 -- Every end of the ranges of an accepted list is none, or a version that can be written.
 -- Assumes nothing.
+use Rattle.std.specs.Prelude.{Option, None, Some}
 use mathlib.Core.Path.{◌≡◌, refl}
 use mathlib.Core.Bool.{false, ◌&&◌}
 use mathlib.Core.List.{List, [], ◌∷◌, map}
-use mathlib.Core.Option.{Option, none, some}
 use Prim.Native.Nat.{ℕ}
 use Rattle.order.specs.All.{All}
 use Rattle.order.proofs.Preorder.{not_top, not_bot}
@@ -23,10 +23,10 @@ use Rattle.list_ends.proofs.Writables.{Holds, shape_holds}
 use Rattle.list_ends.proofs.Tables.{place_bounded, ranges_are}
 
 -- the first of a list that equals e is one of the list
-first_holds : (e x : Place) (l : List Place) → All Holds l → first le_place e l ≡ some x → Holds x
+first_holds : (e x : Place) (l : List Place) → All Holds l → first le_place e l ≡ Some x → Holds x
 first_holds e x [] a = λ f. let z : top ≡ x = cc in rw (← z) tt
 first_holds e x (y ∷ l) a =
-    by_test (λ o. o ≡ some x → Holds x) (le_place y e && le_place e y) (some y) (first le_place e l)
+    by_test (λ o. o ≡ Some x → Holds x) (le_place y e && le_place e y) (Some y) (first le_place e l)
     (λ t f. let z : y ≡ x = cc in rw (← z) a.0) (λ t. first_holds e x l a.1)
 
 -- the ends that the clauses give
@@ -60,7 +60,7 @@ as_upper (after v) q h e = h
 module _ (cs : List Clause) (sound : All Sound cs) where
   all_written : (b : Option Place) (T : List (Range Place)) → Asc le_place b T → Firsts le_place bot top (map clause_shape cs) T → All Written T
   all_written b [] a f = tt
-  all_written b (r ∷ T) a f = (one, all_written (some r.hi) T a.2 f.1)
+  all_written b (r ∷ T) a f = (one, all_written (Some r.hi) T a.2 f.1)
     where
       one : Written r
       one = record {
@@ -69,4 +69,4 @@ module _ (cs : List Clause) (sound : All Sound cs) where
       }
 
 pub ends_written : (s : List ℕ) (cs : List Clause) → list_of s ≡ clauses cs → All Written (ranges_of cs)
-ends_written s cs e = all_written cs (clauses_sound s cs e) none (ranges_of cs) (ranges_are cs).ascends (ranges_are cs).firsts
+ends_written s cs e = all_written cs (clauses_sound s cs e) None (ranges_of cs) (ranges_are cs).ascends (ranges_are cs).firsts

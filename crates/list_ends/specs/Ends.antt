@@ -1,6 +1,5 @@
 -- The two ends of each clause, as places.
-use Rattle.std.specs.Prelude.{Bool, true, false}
-use Rattle.std.proofs.Math.Option.{Option, none, some}
+use Rattle.std.specs.Prelude.{Bool, true, false, Option, None, Some}
 use Rattle.ranges.specs.Cut.{bot, top, before, after}
 use Rattle.version_reading.specs.Value.{Value}
 use Rattle.version_prefix.specs.Prefix.{prefix_start, prefix_end, shorter}
@@ -12,8 +11,8 @@ use Rattle.list_ends.specs.Cut.{Place}
 
 -- before a version; where there is none, no end
 abbrev pub ends_before : Option Value → Place
-ends_before none = top
-ends_before (some v) = before v
+ends_before None = top
+ends_before (Some v) = before v
 
 -- a match ends before the next prefix with `.dev0`
 abbrev pub match_end : Value → Place

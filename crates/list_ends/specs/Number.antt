@@ -1,14 +1,21 @@
 -- The ends of a list by number: 0 below all, 1 above all, then the two ends of each clause in turn.
-use Rattle.std.specs.Prelude.{List, ℕ, zero, suc}
+use Rattle.answers.specs.declared.Refusal.{Refusal}
+use Rattle.std.specs.Prelude.{List, ℕ, zero, suc, Result, Ok, Err}
 use Rattle.ranges.specs.Cut.{bot, top}
+use Rattle.list_clauses.specs.declared.clause.Clause.{Clause}
 use Rattle.list_clauses.specs.Step.{part_at, clause_in}
 use Rattle.list_ends.specs.Cut.{Place}
 use Rattle.list_ends.specs.Ends.{first_end, second_end}
 
+-- an end of a clause; one that is refused has its ends below all
+abbrev pub end_of : (Clause → Place) → Result Clause Refusal → Place
+end_of end (Ok c) = end c
+end_of end (Err x) = bot
+
 -- the ends from the clause on that starts there
 unfoldable pub place_from : List ℕ → ℕ → ℕ → Place
-place_from s start zero = first_end (clause_in s start)
-place_from s start (suc zero) = second_end (clause_in s start)
+place_from s start zero = end_of first_end (clause_in s start)
+place_from s start (suc zero) = end_of second_end (clause_in s start)
 place_from s start (suc (suc n)) = place_from s (part_at s start).next n
 
 unfoldable pub place_number : List ℕ → ℕ → Place

@@ -9,7 +9,6 @@ ghost use Rattle.list_ends.specs.Ends.{match_end, equal_start, equal_end, first_
 use crate::end::{End, Side};
 use list_clauses::clause::Clause;
 use list_clauses::operator::Operator;
-use order::smaller;
 use version_parts::fields::Version;
 use version_prefix::next::{match_end, match_start};
 
@@ -36,12 +35,10 @@ fn match_last(version: Version, count: usize) -> End
     requires { count ≤ version.release.len }
     ensures { EndIs (match_end (cut_to count (value_of [] version))) (most version) result }
 {
-    let next = match_end(version, count);
-    if next.exists {
-        let version = next.version;
-        return before(version);
+    match match_end(version, count) {
+        Some(next) => before(next),
+        None => End::topmost(),
     }
-    End::topmost()
 }
 
 fn first_equal(wildcard: bool, version: Version) -> End
@@ -62,33 +59,25 @@ fn last_equal(wildcard: bool, version: Version) -> End
     after(version)
 }
 
-fn less_one(n: usize) -> usize
-    ensures { result ≡ n - 1 }
-{
-    if 0 < n { n - 1 } else { 0 }
-}
-
 // Where a match of all release numbers but the last ends. A version has 16 at most.
 fn last_compatible(version: Version) -> End
     ensures { EndIs (match_end (shorter (value_of [] version))) (most version) result }
 {
-    match_last(version, less_one(smaller(version.release.len, 16)))
+    match_last(version, version.release.len.min(16).saturating_sub(1))
 }
 
 // Where what a clause accepts begins, or, with `!=`, what it does not accept.
 pub fn first_end(clause: Clause) -> End
     ensures { EndIs (first_end clause) (most clause.version) result }
 {
-    let operator = clause.operator;
-    let version = clause.version;
-    match operator {
-        Operator::Equal => first_equal(clause.wildcard, version),
-        Operator::NotEqual => first_equal(clause.wildcard, version),
-        Operator::Compatible => before(version),
+    match clause.operator {
+        Operator::Equal => first_equal(clause.wildcard, clause.version),
+        Operator::NotEqual => first_equal(clause.wildcard, clause.version),
+        Operator::Compatible => before(clause.version),
         Operator::AtMost => End::bottom(),
-        Operator::AtLeast => before(version),
+        Operator::AtLeast => before(clause.version),
         Operator::Below => End::bottom(),
-        Operator::Above => after(version),
+        Operator::Above => after(clause.version),
     }
 }
 
@@ -96,15 +85,13 @@ pub fn first_end(clause: Clause) -> End
 pub fn second_end(clause: Clause) -> End
     ensures { EndIs (second_end clause) (most clause.version) result }
 {
-    let operator = clause.operator;
-    let version = clause.version;
-    match operator {
-        Operator::Equal => last_equal(clause.wildcard, version),
-        Operator::NotEqual => last_equal(clause.wildcard, version),
-        Operator::Compatible => last_compatible(version),
-        Operator::AtMost => after(version),
+    match clause.operator {
+        Operator::Equal => last_equal(clause.wildcard, clause.version),
+        Operator::NotEqual => last_equal(clause.wildcard, clause.version),
+        Operator::Compatible => last_compatible(clause.version),
+        Operator::AtMost => after(clause.version),
         Operator::AtLeast => End::topmost(),
-        Operator::Below => before(version),
+        Operator::Below => before(clause.version),
         Operator::Above => End::topmost(),
     }
 }
@@ -113,14 +100,5 @@ pub fn second_end(clause: Clause) -> End
 pub fn is_hollow(clause: Clause) -> bool
     ensures { result ≡ hollow clause.operator }
 {
-    let operator = clause.operator;
-    match operator {
-        Operator::NotEqual => true,
-        Operator::Equal => false,
-        Operator::Compatible => false,
-        Operator::AtMost => false,
-        Operator::AtLeast => false,
-        Operator::Below => false,
-        Operator::Above => false,
-    }
+    matches!(clause.operator, Operator::NotEqual)
 }

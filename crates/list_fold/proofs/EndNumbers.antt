@@ -1,35 +1,63 @@
 -- The ways of the functions that give an end by its number.
 -- Assumes nothing.
-use mathlib.Core.Path.{◌≡◌, ◌∙◌, ap}
+use Rattle.answers.specs.declared.Refusal.{Refusal}
+use Rattle.std.specs.Prelude.{Result, Ok, Err, IfOk}
+use mathlib.Core.Path.{◌≡◌, sym, ◌∙◌, ap}
 use mathlib.Core.List.{List}
-use Prim.Native.Nat.{ℕ, suc, ◌-◌, ◌≤◌, ◌<◌}
+use Prim.Native.Nat.{ℕ, suc, ◌+◌, ◌-◌, ◌*◌, ◌/◌, ◌%◌, ◌≤◌, ◌<◌}
+use native.Mathlib.Decide.{ℕ_discrete}
 use native.Mathlib.Omega.{arith}
+use Rattle.list_clauses.specs.declared.clause.Clause.{Clause}
 use Rattle.list_clauses.specs.declared.step.Part.{Part}
 use Rattle.list_clauses.specs.declared.step.Step.{Step}
-use Rattle.list_clauses.specs.Step.{part_at, step_at}
+use Rattle.list_clauses.specs.Step.{part_at, clause_in, step_at}
 use Rattle.list_ends.specs.declared.end.End.{End}
-use Rattle.list_ends.specs.Cut.{Place}
 use Rattle.list_ends.specs.End.{bottom, topmost, most, EndIs}
 use Rattle.list_ends.specs.Ends.{first_end, second_end}
-use Rattle.list_ends.specs.Number.{place_from, place_number}
+use Rattle.list_ends.specs.Number.{end_of, place_from, place_number}
 use Rattle.list_ends.proofs.Given.{made_bottom, made_topmost, elsewhere}
 
--- the end `left` numbers on from a clause is always the same
-module _ (s : List ℕ) (start left : ℕ) (t : Place) (same : place_from s start left ≡ t) where
-  pub end_onward : (passed : Part) → passed ≡ part_at s start → 1 < left → place_from s passed.next (left - 2) ≡ t
+-- after i clauses, the end that is left to find is the same
+module _ (s : List ℕ) (start n i : ℕ) (same : place_from s start (n - 2 * i) ≡ place_from s 0 n) where
+  pub end_onward : (passed : Part) → passed ≡ part_at s start → i < n / 2 → place_from s passed.next (n - 2 * (i + 1)) ≡ place_from s 0 n
   unfolding place_from
-  end_onward passed e l = let two : left ≡ suc (suc (left - 2)) = omega arith in rw e (rw two at same)
+  end_onward passed e h =
+      let two : n - 2 * i ≡ suc (suc (n - 2 * (i + 1))) = omega arith in
+      rw e (rw two at same)
 
-  module _ (x : Step) (r : End) (e : x ≡ step_at s start) (few : x.clause.version.release.len ≤ 16) where
-    pub end_first : left ≡ 0 → EndIs (first_end x.clause) (most x.clause.version) r → EndIs t 16 r
-    unfolding place_from step_at
-    end_first z h = elsewhere t 16 h (ap (λ y. first_end y.clause) e ∙ (rw z at same)) (omega arith)
+  module _ (x : Step) (r : End) (e : x ≡ step_at s start) (no_more : i ≤ n / 2) (all : n / 2 ≤ i) where
+    clause_is : (q : Result Clause Refusal) → x.clause ≡ q → clause_in s start ≡ q
+    unfolding step_at
+    clause_is q g = ap (λ y. y.clause) (sym e) ∙ g
 
-    pub end_second : (left ≡ 0 → ⊥) → left ≤ 1 → EndIs (second_end x.clause) (most x.clause.version) r → EndIs t 16 r
-    unfolding place_from step_at
-    end_second z l h =
-        let one : left ≡ 1 = omega arith in
-        elsewhere t 16 h (ap (λ y. second_end y.clause) e ∙ (rw one at same)) (omega arith)
+    module _ (c : Clause) (g : x.clause ≡ Ok c) (few : IfOk x.clause (λ d. d.version.release.len ≤ 16)) where
+      within : c.version.release.len ≤ 16
+      within = rw g at few
+
+      pub end_first : n % 2 ≡ 0 → EndIs (first_end c) (most c.version) r → EndIs (place_from s 0 n) 16 r
+      unfolding place_from
+      end_first z h =
+          let left : n - 2 * i ≡ 0 = omega arith in
+          elsewhere (place_from s 0 n) 16 h (ap (end_of first_end) (sym (clause_is (Ok c) g)) ∙ (rw left at same)) (omega (arith, within))
+
+      pub end_second : (n % 2 ≡ 0 → ⊥) → EndIs (second_end c) (most c.version) r → EndIs (place_from s 0 n) 16 r
+      unfolding place_from
+      end_second z h =
+          let left : n - 2 * i ≡ 1 = omega arith in
+          elsewhere (place_from s 0 n) 16 h (ap (end_of second_end) (sym (clause_is (Ok c) g)) ∙ (rw left at same)) (omega (arith, within))
+
+    -- a clause that is refused has its ends below all
+    pub end_refused : (y : Refusal) → x.clause ≡ Err y → r ≡ bottom → EndIs (place_from s 0 n) 16 r
+    unfolding place_from
+    end_refused y g h =
+        elim (ℕ_discrete (n % 2) 0) [
+          | yes z ↦
+              let left : n - 2 * i ≡ 0 = omega arith in
+              elsewhere (place_from s 0 n) 16 (made_bottom 16 r h) (ap (end_of first_end) (sym (clause_is (Err y) g)) ∙ (rw left at same)) (omega arith)
+          | no z ↦
+              let left : n - 2 * i ≡ 1 = omega arith in
+              elsewhere (place_from s 0 n) 16 (made_bottom 16 r h) (ap (end_of second_end) (sym (clause_is (Err y) g)) ∙ (rw left at same)) (omega arith)
+        ]
 
 module _ (s : List ℕ) (n : ℕ) (r : End) where
   pub number_bottom : n ≡ 0 → r ≡ bottom → EndIs (place_number s n) 16 r

@@ -1,85 +1,74 @@
 -- The ways out of `keep`, and the turns of the loop of `clip`.
 -- Assumes nothing.
-use mathlib.Core.Path.{◌≡◌, refl, sym, ◌∙◌, ap}
+use mathlib.Core.Path.{◌≡◌, sym, ◌∙◌}
 use mathlib.Core.Bool.{Bool, true, false}
-use mathlib.Core.List.{List, [], ◌∷◌, ◌++◌, append_assoc, append-nil}
+use mathlib.Core.List.{List, [], ◌∷◌, ◌++◌, map, map-append, append_assoc, append-nil}
 use Prim.Native.Nat.{ℕ, suc, ◌+◌, ◌≤◌, ◌<◌}
 use native.Mathlib.Numerals.{add-one}
 use native.Mathlib.Omega.{arith}
 use lib.ListN.{length, take, get_or}
-use lib.Seq.{take-suc, length-take-le}
+use lib.Seq.{take-suc, take_all}
 use Rattle.ranges.specs.Range.{Range}
-use Rattle.ranges.specs.Compile.{tighter, keep, clip, step}
+use Rattle.ranges.specs.Compile.{keep, clip, step}
 use Rattle.ranges.proofs.Grow.{clip_snoc}
 use Rattle.list_ends.specs.Shape.{shaped}
+use Rattle.list_fold.specs.declared.numbered_ranges.NumberedRange.{NumberedRange}
 use Rattle.list_fold.specs.declared.numbered_ranges.NumberedRanges.{NumberedRanges}
 use Rattle.list_fold.specs.Row.{le_row}
-use Rattle.list_fold.specs.Ranges.{range, paired, ranges_in, packed, Holds}
+use Rattle.list_fold.specs.Ranges.{range_of, ranges_in, packed, Holds}
 use Rattle.list_fold.specs.Folded.{PartKept}
 use Rattle.list_fold.proofs.Packed.{held, settled, restated}
 
--- one pair more
-paired_more : (k l : List ℕ) (lo hi : ℕ) → length k ≡ length l → paired (k ++ (lo ∷ [])) (l ++ (hi ∷ [])) ≡ paired k l ++ (range lo hi ∷ [])
-paired_more [] [] lo hi h = refl
-paired_more [] (y ∷ l) lo hi h = absurd (omega arith)
-paired_more (x ∷ k) [] lo hi h = absurd (omega arith)
-paired_more (x ∷ k) (y ∷ l) lo hi h = ap (λ (T : List (Range ℕ)). range x y ∷ T) (paired_more k l lo hi (omega arith))
-
-pub paired_suc : (k l : List ℕ) (i : ℕ) → i < length k → i < length l
-    → paired (take (suc i) k) (take (suc i) l) ≡ paired (take i k) (take i l) ++ (range (get_or k i 0) (get_or l i 0) ∷ [])
-paired_suc k l i h j =
-    rw (take-suc k i 0 h, take-suc l i 0 j)
-    (paired_more (take i k) (take i l) (get_or k i 0) (get_or l i 0) (length-take-le i k (omega arith) ∙ sym (length-take-le i l (omega arith))))
+-- one range more
+pub said_suc : (l : List NumberedRange) (i : ℕ) (blank : NumberedRange) → i < length l →
+    map range_of (take (suc i) l) ≡ map range_of (take i l) ++ (range_of (get_or l i blank) ∷ [])
+said_suc l i blank h = rw (take-suc l i blank h, map-append range_of (take i l) (get_or l i blank ∷ []))
 
 module _ (rows : List ℕ) where
-  module _ (ranges : NumberedRanges) (low high : ℕ) (empty : Bool) (test : empty ≡ le_row rows high low) where
+  module _ (ranges : NumberedRanges) (x : NumberedRange) (empty : Bool) (test : empty ≡ le_row rows x.high x.low) where
     -- an empty range goes
     pub kept_none : (most : ℕ) → Holds most (ranges_in ranges) ranges → empty ≡ true
-        → Holds (ranges.count + 1) (ranges_in ranges ++ keep (le_row rows) (range low high) []) ranges
+        → Holds (ranges.count + 1) (ranges_in ranges ++ keep (le_row rows) (range_of x) []) ranges
     kept_none most h e = restated _ _ h (rw (← test, e, append-nil (ranges_in ranges))) (omega arith)
 
-    pub kept_one : (r : NumberedRanges) → Holds (ranges.count + 1) (ranges_in ranges ++ (range low high ∷ [])) r → empty ≡ false
-        → Holds (ranges.count + 1) (ranges_in ranges ++ keep (le_row rows) (range low high) []) r
+    pub kept_one : (r : NumberedRanges) → Holds (ranges.count + 1) (ranges_in ranges ++ (range_of x ∷ [])) r → empty ≡ false
+        → Holds (ranges.count + 1) (ranges_in ranges ++ keep (le_row rows) (range_of x) []) r
     kept_one r h e = restated _ _ h (rw (← test, e)) (omega arith)
 
--- the way out of `keep_part`
-pub part_kept : (rows : List ℕ) (parts r : NumberedRanges) (low high lo hi a b : ℕ) → a ≡ tighter (le_row rows) low lo → b ≡ tighter (λ x y. le_row rows y x) high hi
-    → Holds (parts.count + 1) (ranges_in parts ++ keep (le_row rows) (range a b) []) r → PartKept rows parts low high lo hi r
-part_kept rows parts r low high lo hi a b e f h = record { holds = rw (e, f) at h }
-
 -- after the others, the parts of the first i ranges
-pub record Clipped (rows : List ℕ) (low high : ℕ) (lows highs : List ℕ) (others : NumberedRanges) (i : ℕ) (parts : NumberedRanges) : Type 0 where
-  pub holds : Holds (others.count + i) (ranges_in others ++ clip (le_row rows) low high (paired (take i lows) (take i highs))) parts
+pub record Clipped (rows : List ℕ) (low high : ℕ) (l : List NumberedRange) (others : NumberedRanges) (i : ℕ) (parts : NumberedRanges) : Type 0 where
+  pub holds : Holds (others.count + i) (ranges_in others ++ clip (le_row rows) low high (map range_of (take i l))) parts
 
-module _ (rows : List ℕ) (low high : ℕ) (lows highs : List ℕ) (others : NumberedRanges) where
-  pub clip_start : (most : ℕ) → Holds most (ranges_in others) others → Clipped rows low high lows highs others 0 others
+module _ (rows : List ℕ) (low high : ℕ) (l : List NumberedRange) (others : NumberedRanges) where
+  pub clip_start : (most : ℕ) → Holds most (ranges_in others) others → Clipped rows low high l others 0 others
   clip_start most h = record { holds = restated _ _ h (sym (append-nil (ranges_in others))) (omega arith) }
 
-  module _ (i : ℕ) (parts : NumberedRanges) (inv : Clipped rows low high lows highs others i parts) where
+  module _ (i : ℕ) (parts : NumberedRanges) (inv : Clipped rows low high l others i parts) where
     pub clip_room : Holds parts.count (ranges_in parts) parts
     clip_room = settled inv.holds
 
-    pub clip_turn : (count : ℕ) (r : NumberedRanges) → i < count → count ≤ 17 → length lows ≡ 34 → length highs ≡ 34
-        → PartKept rows parts low high (get_or lows i 0) (get_or highs i 0) r → Clipped rows low high lows highs others (i + 1) r
-    clip_turn count r h few one other k =
-        let before : List (Range ℕ) = clip (le_row rows) low high (paired (take i lows) (take i highs)) in
+    pub clip_turn : (r : NumberedRanges) (blank : NumberedRange) → i < length l →
+        PartKept rows parts low high (get_or l i blank) r → Clipped rows low high l others (i + 1) r
+    clip_turn r blank h k =
+        let before : List (Range ℕ) = clip (le_row rows) low high (map range_of (take i l)) in
         record {
           holds =
               restated _ _ k.holds
               (rw (
                 held inv.holds,
                 add-one i,
-                paired_suc lows highs i (omega arith) (omega arith),
-                clip_snoc (le_row rows) low high (paired (take i lows) (take i highs)) (range (get_or lows i 0) (get_or highs i 0)),
+                said_suc l i blank h,
+                clip_snoc (le_row rows) low high (map range_of (take i l)) (range_of (get_or l i blank)),
               ) (append_assoc (ranges_in others) before _))
               (omega (arith, inv.holds.few, k.holds.few));
         }
 
-pub clip_end : (rows : List ℕ) (old others parts : NumberedRanges) (low high i : ℕ) → i ≤ old.count → old.count ≤ i
-    → Clipped rows low high old.lows old.highs others i parts
-    → Holds (others.count + old.count) (ranges_in others ++ clip (le_row rows) low high (ranges_in old)) parts
+pub clip_end : (rows : List ℕ) (old others parts : NumberedRanges) (l : List NumberedRange) (low high i : ℕ) → l ≡ take old.count old.list →
+    length l ≤ old.count → i ≤ length l → length l ≤ i → Clipped rows low high l others i parts →
+    Holds (others.count + old.count) (ranges_in others ++ clip (le_row rows) low high (ranges_in old)) parts
 unfolding ranges_in
-clip_end rows old others parts low high i h k inv = let all : i ≡ old.count = omega arith in rw all at inv.holds
+clip_end rows old others parts l low high i e few h k inv =
+    restated _ _ inv.holds (rw (take_all i l k, e)) (omega (arith, inv.holds.few))
 
 -- the ways out of `cut_down`
 module _ (rows : List ℕ) (old none : NumberedRanges) (blank : Holds 0 [] none) where

@@ -1,16 +1,15 @@
 -- Rows one after the other: each is found again at its number, and two more are added after them.
 -- Assumes nothing.
-use mathlib.Core.Path.{◌≡◌, refl, ◌∙◌, ap}
+use mathlib.Core.Path.{◌≡◌, refl}
 use mathlib.Core.List.{List, [], ◌∷◌, ◌++◌, append_assoc}
 use Prim.Native.Nat.{ℕ, zero, suc, ◌+◌, ◌*◌, ◌≤◌, ◌<◌}
 use native.Mathlib.Decide.{ℕ_discrete}
-use native.Mathlib.Numerals.{add-one}
 use native.Mathlib.Omega.{arith}
 use lib.ListN.{length, length-append, drop, take-append-drop}
 use lib.Seq.{paste, take-paste, length-paste, take_all, take_at, drop_at}
 use Rattle.ranges.specs.Cut.{bot, top, before, after}
 use Rattle.list_ends.specs.Cut.{Place, le_place}
-use Rattle.list_fold.specs.Row.{version_row, key_row, Short, rows_to, row_at, le_row, PlaceRow, Rows, EndsPut}
+use Rattle.list_fold.specs.Row.{version_row, key_row, Short, rows_to, row_at, le_row, Rows, EndsPut}
 use Rattle.version_rows.specs.Row.{row_of}
 use Rattle.version_rows.proofs.Compared.{row_long as numbers-long}
 use Rattle.version_reading.specs.Value.{Value}
@@ -68,22 +67,6 @@ module _ (f : ℕ → Place) where
           are = rw (width, take-paste rows (24 * m) (key_row (f m)) 24 (omega arith) (omega arith), take_all 24 (key_row (f m)) (omega arith), R.are);
           short = λ n k. elim (ℕ_discrete n m) [ yes e ↦ rw e s | no e ↦ R.short n (omega arith) ];
         }
-
--- the way out of `put_ends`
-pub both_put : (m : ℕ) (p q : Place) (one other old middle new : List ℕ) → 24 * m + 48 ≤ length old → PlaceRow p one → PlaceRow q other
-    → middle ≡ paste old (24 * m) one 24 → new ≡ paste middle (24 * (m + 1)) other 24 → EndsPut m p q old new
-both_put m p q one other old middle new room first second e f =
-    let long = row_long p first.short in
-    let wide = row_long q second.short in
-    let there = length-paste old (24 * m) (key_row p) 24 (omega arith) (omega arith) in
-    let is : new ≡ paste (paste old (24 * m) (key_row p) 24) (24 * suc m) (key_row q) 24 =
-    f ∙ rw (e, first.is, second.is, add-one m) in
-    record {
-      is = is;
-      first = first.short;
-      second = second.short;
-      size = ap length is ∙ length-paste (paste old (24 * m) (key_row p) 24) (24 * suc m) (key_row q) 24 (omega arith) (omega arith) ∙ there;
-    }
 
 -- the rows go on with those of the two places
 pub rows_go_on : (f : ℕ → Place) (m : ℕ) (p q : Place) (old new : List ℕ) → Rows f m old → 24 * m + 48 ≤ length old → EndsPut m p q old new

@@ -10,8 +10,8 @@ use Rattle.chars.proofs.Parts.{part_past, part_over}
 use Rattle.order.specs.Ordering.{Ordering, lt, eq, gt, is_le}
 use Rattle.order.specs.Compare.{padded}
 use Rattle.order.specs.Answer.{name_of}
-use Rattle.order.specs.declared.Order.{Order}
-use Rattle.order.specs.declared.Order.TheVariants.{Less, Equal, Greater}
+use Rattle.std.specs.declared.cmp.Ordering.{Ordering as Order}
+use Rattle.std.specs.Ordering.{is_le as says_le}
 use Rattle.ranges.specs.Compile.{tighter}
 use Rattle.list_fold.specs.Row.{row_at, le_row}
 
@@ -28,31 +28,17 @@ module _ (rows : List ℕ) (number : ℕ) where
       → take (length rows - start) (drop start rows) ≡ row_at rows number
   row_cut start end e f h = part_over rows start end h ∙ row_there start end e f
 
--- the answer, by its name
-abbrev at_most_by : Order → Bool
-at_most_by Less = true
-at_most_by Equal = true
-at_most_by Greater = false
-
-by_name : (o : Ordering) → at_most_by (name_of o) ≡ is_le o
+by_name : (o : Ordering) → says_le (name_of o) ≡ is_le o
 by_name lt = refl
 by_name eq = refl
 by_name gt = refl
 
 -- x and y are the rows a and b
-module _ (rows x y : List ℕ) (a b : ℕ) (r : Order) (p : x ≡ row_at rows a) (q : y ≡ row_at rows b) (e : r ≡ name_of (padded compare 0 x y)) where
-  same : at_most_by r ≡ le_row rows a b
-  same = ap at_most_by e ∙ rw (p, q) (by_name (padded compare 0 (row_at rows a) (row_at rows b)))
+pub rows_le : (rows x y : List ℕ) (a b : ℕ) (r : Order) (q : Bool) → x ≡ row_at rows a → y ≡ row_at rows b → r ≡ name_of (padded compare 0 x y) →
+    q ≡ says_le r → q ≡ le_row rows a b
+rows_le rows x y a b r q e f g h = h ∙ ap says_le g ∙ rw (e, f) (by_name (padded compare 0 (row_at rows a) (row_at rows b)))
 
-  pub says_less : r ≡ Less → true ≡ le_row rows a b
-  says_less f = rw f at same
-
-  pub says_equal : r ≡ Equal → true ≡ le_row rows a b
-  says_equal f = rw f at same
-
-  pub says_greater : r ≡ Greater → false ≡ le_row rows a b
-  says_greater f = rw f at same
-
+-- the choice between two lower ends
 module _ (le : ℕ → ℕ → Bool) (new old : ℕ) (test : Bool) (e : test ≡ le new old) where
   pub old_stays : test ≡ true → old ≡ tighter le new old
   old_stays f = rw (← e, f)

@@ -3,10 +3,10 @@ ghost use Rattle.std.specs.Prelude.{◌≡◌, [], ◌++◌, ◌+◌, ◌≤◌,
 ghost use Rattle.ranges.specs.Compile.{tighter, keep as kept, clip as clipped, step as stepped};
 ghost use Rattle.list_ends.specs.Shape.{shaped};
 ghost use Rattle.list_fold.specs.Row.{le_row};
-ghost use Rattle.list_fold.specs.Ranges.{Holds, range, ranges_in, packed};
+ghost use Rattle.list_fold.specs.Ranges.{Holds, range_of, ranges_in, packed};
 ghost use Rattle.list_fold.specs.Folded.{PartKept};
 
-use crate::numbered_ranges::NumberedRanges;
+use crate::numbered_ranges::{NumberedRange, NumberedRanges};
 use crate::rows::at_most;
 
 // The greater of two lower ends; of equal ones the old.
@@ -24,29 +24,32 @@ fn upper(rows: &[u64], new: u8, old: u8) -> u8
 }
 
 // One more range after the others, unless it is empty.
-fn keep(rows: &[u64], ranges: NumberedRanges, low: u8, high: u8) -> NumberedRanges
+fn keep(rows: &[u64], ranges: NumberedRanges, range: NumberedRange) -> NumberedRanges
     requires { (ranges.count < 34) × Holds ranges.count (ranges_in ranges) ranges }
-    ensures { Holds (ranges.count + 1) (ranges_in ranges ++ kept (le_row rows.now) (range low high) []) result }
+    ensures { Holds (ranges.count + 1) (ranges_in ranges ++ kept (le_row rows.now) (range_of range) []) result }
 {
-    if at_most(rows, high, low) {
+    if at_most(rows, range.high, range.low) {
         return ranges;
     }
-    ranges.push(low, high)
+    ranges.push(range)
 }
 
-// One more part after the others: what lies between two ends of the range from `lo` to `hi`, unless that is empty.
+// One more part after the others: what lies between two ends of the old range, unless that is empty.
 fn keep_part(
     rows: &[u64],
     parts: NumberedRanges,
     low: u8,
     high: u8,
-    lo: u8,
-    hi: u8,
+    old: NumberedRange,
 ) -> NumberedRanges
     requires { (parts.count < 34) × Holds parts.count (ranges_in parts) parts }
-    ensures { PartKept rows.now parts low high lo hi result }
+    ensures { PartKept rows.now parts low high old result }
 {
-    keep(rows, parts, lower(rows, low, lo), upper(rows, high, hi))
+    let part = NumberedRange {
+        low: lower(rows, low, old.low),
+        high: upper(rows, high, old.high),
+    };
+    keep(rows, parts, part)
 }
 
 // The parts of the old ranges between two ends, after the others.
@@ -60,14 +63,10 @@ pub(crate) fn clip(
     requires { (old.count ≤ 17) × (others.count ≤ 17) × Holds others.count (ranges_in others) others }
     ensures { Holds (others.count + old.count) (ranges_in others ++ clipped (le_row rows.now) low high (ranges_in old)) result }
 {
-    let lows = old.lows;
-    let highs = old.highs;
-    let count = old.count;
+    let ranges = old.ranges();
     let mut parts = others;
-    let mut i = 0;
-    while i < count {
-        parts = keep_part(rows, parts, low, high, lows[i], highs[i]);
-        i += 1;
+    for range in ranges {
+        parts = keep_part(rows, parts, low, high, *range);
     }
     parts
 }

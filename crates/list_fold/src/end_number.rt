@@ -6,27 +6,27 @@ use list_clauses::step::{part_at, step_at};
 use list_ends::clause_ends::{first_end, second_end};
 use list_ends::end::End;
 
-// The ends of the clauses alone.
+// The ends of the clauses alone. A clause that is refused has its ends below all.
 fn clause_end(list: &[u8], number: usize) -> End
     ensures { EndIs (place_from list.now 0 number) 16 result }
 {
     let mut start = 0;
-    let mut left = number;
-    while 1 < left {
-        let passed = part_at(list, start);
-        start = passed.next;
-        left -= 2;
+    for _passed in 0..number / 2 {
+        start = part_at(list, start).next;
     }
-    let read = step_at(list, start);
-    let clause = read.clause;
-    if left == 0 {
-        first_end(clause)
-    } else {
-        second_end(clause)
+    match step_at(list, start).clause {
+        Err(_) => End::bottom(),
+        Ok(clause) => {
+            if number % 2 == 0 {
+                first_end(clause)
+            } else {
+                second_end(clause)
+            }
+        }
     }
 }
 
-// The end with that number. After the last clause's ends come those of a clause without bytes.
+// The end with that number. After the last clause's ends come those of a clause without bytes, which is refused.
 pub fn end_number(list: &[u8], number: usize) -> End
     ensures { EndIs (place_number list.now number) 16 result }
 {

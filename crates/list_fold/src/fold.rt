@@ -3,75 +3,51 @@
 ghost use Rattle.std.specs.Prelude.{◌+◌, ◌*◌, ◌≤◌, min, length};
 ghost use Rattle.list_clauses.specs.Commas.{commas_in};
 ghost use Rattle.list_clauses.specs.List.{clauses_from};
-ghost use Rattle.list_fold.specs.Folded.{RefusedWith, FoldedBy, FoldedAs};
+ghost use Rattle.list_fold.specs.Folded.{FoldedBy, FoldedAs};
 
 use crate::clause::{fold_clause, put_ends};
 use crate::numbered_ranges::NumberedRanges;
-use answers::{Measured, Refusal};
+use answers::Refusal;
 use chars::class;
 use list_clauses::commas::count_commas;
 use list_clauses::step::step_at;
 use list_ends::end::End;
 
-// What a list says: how many clauses it has, or its refusal, and the ranges of what all of them accept. A refused list has none.
-#[derive(Clone, Copy)]
-pub struct Folded {
-    pub checked: Measured,
-    pub ranges: NumberedRanges,
-}
-
-fn refused(number: u8, place: usize) -> Folded
-    ensures { RefusedWith number place result }
-{
-    Folded {
-        checked: Measured::Refused(Refusal { number, place }),
-        ranges: NumberedRanges::none(),
-    }
-}
-
 // One pass over a list that is not blank: each clause is read and folded. `rows` has room for two rows, and two more for each clause.
-fn fold_clauses(list: &[u8], rows: &mut [u64]) -> Folded
+fn fold_clauses(list: &[u8], rows: &mut [u64]) -> Result<NumberedRanges, Refusal>
     requires { 48 * min (commas_in list.now) 15 + 96 ≤ length rows.old }
     ensures { FoldedBy list.now (clauses_from 16 list.now 0) result }
 {
     put_ends(rows, 0, End::bottom(), End::topmost());
     let mut ranges = NumberedRanges::everything();
     let mut start = 0;
-    let mut count = 0;
-    loop {
-        if count == 16 {
-            return refused(17, start);
-        }
+    for count in 0usize..16 {
         let read = step_at(list, start);
-        let clause = read.clause;
-        if clause.refusal != 0 {
-            return refused(clause.refusal, clause.place);
-        }
-        let left = fold_clause(rows, ranges, clause, count);
-        count += 1;
+        let clause = read.clause?;
+        ranges = fold_clause(rows, ranges, clause, count);
         if read.part.last {
-            return Folded {
-                checked: Measured::Length(count),
-                ranges: left,
-            };
+            return Ok(ranges);
         }
-        ranges = left;
         start = read.part.next;
     }
+    Err(Refusal {
+        number: 17,
+        place: start,
+    })
 }
 
-// The list's verdict, and its ranges. Most lists have few clauses, and need few rows.
-pub fn fold(list: &[u8]) -> Folded
+// The ranges of what all clauses of a list accept, or the list's refusal. Most lists have few clauses, and need few rows.
+pub fn fold(list: &[u8]) -> Result<NumberedRanges, Refusal>
     ensures { FoldedAs list.now result }
 {
     if 1024 < list.len() {
-        return refused(8, 1024);
+        return Err(Refusal {
+            number: 8,
+            place: 1024,
+        });
     }
     if class::run(list, class::BLANK, class::BLANK) == list.len() {
-        return Folded {
-            checked: Measured::Length(0),
-            ranges: NumberedRanges::everything(),
-        };
+        return Ok(NumberedRanges::everything());
     }
     if count_commas(list) <= 3 {
         let mut rows = [0u64; 240];

@@ -15,11 +15,7 @@ fn with_side(numbers: [u64; 22], side: u64) -> [u64; 24]
     let mut row = [0u64; 24];
     row[0] = 1;
     row[23] = side;
-    let mut i = 0;
-    while i < 22 {
-        row[1 + i] = numbers[i];
-        i += 1;
-    }
+    row[1..23].copy_from_slice(&numbers);
     row
 }
 
@@ -35,16 +31,14 @@ fn version_row(version: Version, side: u64) -> [u64; 24]
 pub(crate) fn key_row(end: End) -> [u64; 24]
     ensures { PlaceRow (place_of end) result }
 {
-    let side = end.side;
-    let version = end.version;
-    match side {
+    match end.side {
         Side::Bottom => [0; 24],
         Side::Top => {
             let mut row = [0u64; 24];
             row[0] = 2;
             row
         }
-        Side::Before => version_row(version, 0),
-        Side::After => version_row(version, 1),
+        Side::Before => version_row(end.version, 0),
+        Side::After => version_row(end.version, 1),
     }
 }

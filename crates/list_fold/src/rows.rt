@@ -3,7 +3,7 @@ ghost use Rattle.std.specs.Prelude.{◌≡◌, ◌≤◌, ◌<◌, ◌*◌, ◌+
 ghost use Rattle.std.proofs.Math.Seq.{paste};
 ghost use Rattle.list_fold.specs.Row.{row_at, le_row};
 
-use order::{Order, compare_numbers};
+use order::compare_numbers;
 
 // Stores a row as the one with that number.
 pub(crate) fn put_row(rows: &mut [u64], number: usize, row: [u64; 24])
@@ -11,11 +11,7 @@ pub(crate) fn put_row(rows: &mut [u64], number: usize, row: [u64; 24])
     ensures { rows.new ≡ paste rows.old (24 * number) row 24 }
 {
     let start = 24 * number;
-    let mut i = 0;
-    while i < 24 {
-        rows[start + i] = row[i];
-        i += 1;
-    }
+    rows[start..start + 24].copy_from_slice(&row);
 }
 
 // The row with that number, as far as there are rows.
@@ -37,10 +33,5 @@ fn row_at(rows: &[u64], number: u8) -> &[u64]
 pub(crate) fn at_most(rows: &[u64], a: u8, b: u8) -> bool
     ensures { result ≡ le_row rows.now a b }
 {
-    let order = compare_numbers(row_at(rows, a), row_at(rows, b));
-    match order {
-        Order::Less => true,
-        Order::Equal => true,
-        Order::Greater => false,
-    }
+    compare_numbers(row_at(rows, a), row_at(rows, b)).is_le()
 }

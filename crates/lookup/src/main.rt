@@ -3,16 +3,11 @@
 
 mod answer;
 
-ghost use Rattle.std.specs.Prelude.{◌≤◌, length};
-ghost use Rattle.lookup.specs.Answer.{longest_answer};
-
 use answer::{LONGEST_ANSWER, put_answer};
-use answer_lines::room::{Room, make_room};
-use answer_lines::text::put_refusal;
-use answers::{Measured, Refusal};
+use answer_lines::line::Line;
+use answers::Refusal;
 use chars::place::part;
-use lines::input::next_line;
-use lines::window::{Found, Window, text_of};
+use lines::source::Lines;
 use std::io::{Read, Write};
 
 // Longer texts and lists are refused whatever their end: a longer line is cut, and refused as what is there of it.
@@ -22,71 +17,37 @@ fn main(rt: HostRuntime) {
     let mut input = rt.stdin();
     let mut output = rt.stdout();
     let mut buffer = lines::input::buffer();
-    let first = next_line(
-        &mut input,
-        &mut buffer,
-        lines::window::empty(),
-        LONGEST_LINE,
-    );
-    let found = first.found;
     let mut table = [0u8; 16384];
-    let written = table_compile::compile(text_of(&buffer, found), &mut table);
-    match written {
-        Measured::Length(n) => answer_versions(
-            &mut input,
-            &mut output,
-            &mut buffer,
-            first.window,
-            part(&table, 0, n),
-        ),
-        Measured::Refused(refusal) => refuse_list(&mut output, refusal),
+    let mut lines = Lines::new(&mut input, &mut buffer, LONGEST_LINE);
+    let list = lines.next().unwrap_or(b"");
+    match table_compile::compile(list, &mut table) {
+        Ok(n) => answer_versions(&mut lines, &mut output, part(&table, 0, n)),
+        Err(refusal) => refuse_list(&mut output, refusal),
     }
 }
 
 fn refuse_list<W: Write>(output: &mut W, refusal: Refusal) {
     let mut out = [0u8; 64];
-    let end = put_refusal(&mut out, 0, b"list refused ", refusal);
+    let mut line = Line::new(&mut out);
+    line.refusal(b"list refused ", refusal);
     // Nobody is left to be told of a write that fails.
-    let _ = output.write_all(part(&out, 0, end));
+    let _ = output.write_all(line.so_far());
 }
 
-fn answer_versions<R: Read, W: Write>(
-    input: &mut R,
-    output: &mut W,
-    buffer: &mut [u8],
-    first: Window,
-    table: &[u8],
-) {
+// Gathers the answers and writes them whenever the next might find no room. The program `fits` has this loop too: as one function that is handed the
+// writer of an answer it would be public and ask that each answer is short, and no public function asks anything (README).
+fn answer_versions<R: Read, W: Write>(lines: &mut Lines<'_, R>, output: &mut W, table: &[u8]) {
     let mut out = [0u8; 65536];
-    let end = gather(input, output, buffer, first, table, &mut out);
-    let _ = output.write_all(part(&out, 0, end));
-}
-
-// Gathers the answers and writes them whenever the next might find no room. Says where those end that are not written yet.
-fn gather<R: Read, W: Write>(
-    input: &mut R,
-    output: &mut W,
-    buffer: &mut [u8],
-    first: Window,
-    table: &[u8],
-    out: &mut [u8],
-) -> usize
-    requires { longest_answer ≤ length out.old }
-{
-    let mut end = 0;
-    let mut window = first;
+    let mut answers = Line::new(&mut out);
     // A proved loop has to end, and nothing says that the input does: no run uses this count up.
     for _ in 0..u64::MAX {
-        let next = next_line(input, buffer, window, LONGEST_LINE);
-        let found = next.found;
-        let Found::Line(from, to) = found else {
-            return end;
+        let Some(version) = lines.next() else {
+            break;
         };
-        let Room::At(at) = make_room(output, out, end, LONGEST_ANSWER) else {
-            return 0;
-        };
-        end = put_answer(out, at, table, part(buffer, from, to));
-        window = next.window;
+        if !answers.make_room(output, LONGEST_ANSWER) {
+            return;
+        }
+        put_answer(&mut answers, table, version);
     }
-    end
+    let _ = output.write_all(answers.so_far());
 }

@@ -1,8 +1,8 @@
 -- Worked points, by computation. They anchor the definitions against changes that would keep every law and still be wrong, as a list's
 -- proper beginning put last. Assumes nothing.
+use Rattle.std.specs.Prelude.{None, Some}
 use mathlib.Core.Path.{◌≡◌, refl}
 use mathlib.Core.List.{[], ◌∷◌}
-use mathlib.Core.Option.{none, some}
 use Prim.Native.Nat.{compare}
 use Rattle.order.specs.Ordering.{lt, eq, gt}
 use Rattle.order.specs.Compare.{list, padded, option}
@@ -19,5 +19,5 @@ padding_is_compared = refl
 pub beginning_first : list compare (4 ∷ []) (4 ∷ 0 ∷ []) ≡ lt
 beginning_first = refl
 
-pub missing_below : option compare none (some 0) ≡ lt
+pub missing_below : option compare None (Some 0) ≡ lt
 missing_below = refl

@@ -7,5 +7,5 @@ pub mod Lists
 pub mod Missing
 pub mod Padded
 pub mod Preorder
-pub mod Answer
 pub mod Elements
+pub mod Named

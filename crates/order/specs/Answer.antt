@@ -1,7 +1,7 @@
 -- The code's names for the three answers. Definitions only; assumes nothing.
 use Rattle.order.specs.Ordering.{Ordering, lt, eq, gt}
-use Rattle.order.specs.declared.Order.{Order}
-use Rattle.order.specs.declared.Order.TheVariants.{Less, Equal, Greater}
+use Rattle.std.specs.declared.cmp.Ordering.{Ordering as Order}
+use Rattle.std.specs.declared.cmp.Ordering.TheVariants.{Less, Equal, Greater}
 
 -- the value of the enum `Order` that stands for an answer
 abbrev pub name_of : Ordering → Order

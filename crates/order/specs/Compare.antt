@@ -1,7 +1,6 @@
 -- Comparisons, and how they are made of others. The order of a record is `lex (by field₁ ..) (lex (by field₂ ..) ..)`.
 -- That each keeps the laws of an order is proved in proofs/. Definitions only; assumes nothing.
-use Rattle.std.specs.Prelude.{List, [], ◌∷◌}
-use Rattle.std.proofs.Math.Option.{Option, none, some}
+use Rattle.std.specs.Prelude.{List, [], ◌∷◌, Option, None, Some}
 use Rattle.order.specs.Ordering.{Ordering, lt, eq, gt, also}
 
 -- a comparison gives an answer for any two things of a type
@@ -33,10 +32,10 @@ module _ {A : Type 0} where
 
   -- what is missing is below all that is there
   abbrev pub option : Comparison A → Comparison (Option A)
-  option cmp none none = eq
-  option cmp none (some y) = lt
-  option cmp (some x) none = gt
-  option cmp (some x) (some y) = cmp x y
+  option cmp None None = eq
+  option cmp None (Some y) = lt
+  option cmp (Some x) None = gt
+  option cmp (Some x) (Some y) = cmp x y
 
   -- the first element of a list that is continued with d
   abbrev pub head_or : A → List A → A

@@ -1,8 +1,8 @@
 -- Worked tables, by computation: they anchor the definitions. The values are lists of numbers, the shorter padded with zeros, so that 4.2
 -- and 4.2.0 are equal in order and yet told apart. Assumes nothing.
+use Rattle.std.specs.Prelude.{None}
 use mathlib.Core.Path.{◌≡◌, refl}
 use mathlib.Core.List.{List, [], ◌∷◌}
-use mathlib.Core.Option.{none}
 use mathlib.Core.Bool.{Bool, true, false, true≢false}
 use Prim.Native.Nat.{ℕ, compare}
 use Rattle.order.specs.Compare.{padded}
@@ -58,5 +58,5 @@ pub equal_is_kept_out : mem le (made (other_than (4 ∷ []) ∷ [])) (before (4 
 equal_is_kept_out = refl
 
 -- ranges that touch are no table
-pub touching_is_refused : Asc le none (bot to before (4 ∷ []) ∷ before (4 ∷ []) to top ∷ []) → ⊥
+pub touching_is_refused : Asc le None (bot to before (4 ∷ []) ∷ before (4 ∷ []) to top ∷ []) → ⊥
 touching_is_refused a = true≢false a.2.0

@@ -1,8 +1,8 @@
 -- How many ranges there are: a span adds none and a hole one at most, so a table has at most one more than there are holes.
 -- Assumes nothing.
+use Rattle.std.specs.Prelude.{Option, None, Some}
 use mathlib.Core.Path.{◌≡◌, refl, ap}
 use mathlib.Core.List.{List, [], ◌∷◌}
-use mathlib.Core.Option.{Option, none, some}
 use mathlib.Core.Bool.{Bool, true, false}
 use Prim.Native.Nat.{suc, ◌+◌, ◌≤◌}
 use native.Mathlib.Omega.{arith}
@@ -25,7 +25,7 @@ clip_length le lo hi (r ∷ T) = omega (arith, keep_length le (narrow le lo hi r
 
 module _ {P : Type 0} {le : P → P → Bool} (L : TotalPreorder le) where
   -- of ranges above x nothing is left below an end that is at most x
-  clip_none : (lo hi x : P) → le hi x ≡ true → (T : List (Range P)) → Asc le (some x) T → clip le lo hi T ≡ []
+  clip_none : (lo hi x : P) → le hi x ≡ true → (T : List (Range P)) → Asc le (Some x) T → clip le lo hi T ≡ []
   clip_none lo hi x h [] a = refl
   clip_none lo hi x h (r ∷ T) a = rw empty (clip_none lo hi x h T (asc_lower L (L.trans (L.total a.0) (L.total a.1)) T a.2))
     where
@@ -40,7 +40,7 @@ module _ {P : Type 0} {le : P → P → Bool} (L : TotalPreorder le) where
     hole_length lo hi p b [] a = omega arith
     hole_length lo hi p b (r ∷ T) a =
         let more = keep_length le (narrow le bot lo r) (clip le bot lo T) in
-        let rest = hole_length lo hi p (some r.hi) T a.2 in
+        let rest = hole_length lo hi p (Some r.hi) T a.2 in
         keep_cases le (λ U. length (keep le (narrow le bot lo r) (clip le bot lo T)) + length U ≤ suc (suc (length T)))
         (narrow le hi top r) (clip le hi top T)
         (λ e. omega arith)
@@ -50,16 +50,16 @@ module _ {P : Type 0} {le : P → P → Bool} (L : TotalPreorder le) where
         reaches : le (narrow le hi top r).hi (narrow le hi top r).lo ≡ false → le lo r.hi ≡ true
         reaches e = L.trans (L.total p) (L.trans (new_lower L hi top r) (L.trans (L.total e) (old_upper L hi top r)))
 
-    compile_length : (ss : List (Shape P)) → All (Proper le) ss → (T : List (Range P)) → Asc le none T
+    compile_length : (ss : List (Shape P)) → All (Proper le) ss → (T : List (Range P)) → Asc le None T
         → length (compile le bot top T ss) ≤ length T + holes ss
     compile_length [] p T a = omega arith
     compile_length (span lo hi ∷ ss) p T a =
-        omega (arith, compile_length ss p.1 (clip le lo hi T) (clip_asc L lo hi none T a), clip_length le lo hi T)
+        omega (arith, compile_length ss p.1 (clip le lo hi T) (clip_asc L lo hi None T a), clip_length le lo hi T)
     compile_length (hole lo hi ∷ ss) p T a =
         omega (
           arith,
-          compile_length ss p.1 (step le bot top (hole lo hi) T) (step_asc L bot top (hole lo hi) p.0 none T a),
-          hole_length lo hi p.0 none T a,
+          compile_length ss p.1 (step le bot top (hole lo hi) T) (step_asc L bot top (hole lo hi) p.0 None T a),
+          hole_length lo hi p.0 None T a,
           length-append (clip le bot lo T) (clip le hi top T),
         )
 

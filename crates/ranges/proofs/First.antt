@@ -1,9 +1,9 @@
 -- Of equal ends the first that the shapes give stands in the table. What is carried through the compilation, for each range: its ends are
 -- first ones, and no end given so far lies strictly inside it. So an end that comes to stand inside it is equal to none before, and is
 -- itself the first of its kind. Assumes nothing.
+use Rattle.std.specs.Prelude.{Some}
 use mathlib.Core.Path.{◌≡◌}
 use mathlib.Core.List.{List, [], ◌∷◌, ◌++◌, map, append-nil}
-use mathlib.Core.Option.{some}
 use mathlib.Core.Bool.{Bool, true, false, ◌&&◌, and-false}
 use mathlib.Core.Logic.{◌⊎◌, inl, inr, ⊎_elim}
 use lib.Seq.{append_snoc}
@@ -31,10 +31,10 @@ module _ {P : Type 0} (le : P → P → Bool) where
     uppers_outside : All (Outside r) us
 
   -- more ends after change no first one
-  first_append : (e x : P) (l m : List P) → first le e l ≡ some x → first le e (l ++ m) ≡ some x
+  first_append : (e x : P) (l m : List P) → first le e l ≡ Some x → first le e (l ++ m) ≡ Some x
   first_append e x [] m h = cc
   first_append e x (y ∷ l) m h =
-      cond_behind (le y e && le e y) (some y) (first le e l) (first le e (l ++ m)) (some x) (first_append e x l m) h
+      cond_behind (le y e && le e y) (Some y) (first le e l) (first le e (l ++ m)) (Some x) (first_append e x l m) h
 
 module _ {P : Type 0} {le : P → P → Bool} (L : TotalPreorder le) where
   -- an end that equals none before it is the first of its kind

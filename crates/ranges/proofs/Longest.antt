@@ -1,7 +1,7 @@
 -- The ranges of a table are the longest stretches: any stretch all of whose cuts are held lies inside one range. Assumes nothing.
+use Rattle.std.specs.Prelude.{Option, None, Some}
 use mathlib.Core.Path.{◌≡◌, refl, sym, ◌∙◌}
 use mathlib.Core.List.{List, [], ◌∷◌}
-use mathlib.Core.Option.{Option, none, some}
 use mathlib.Core.Bool.{Bool, true, false, not, false≢true}
 use mathlib.Core.Logic.{inl, inr}
 use mathlib.Mathlib.Data.Bool.Basic.{eq-true_of_not-eq-false, eq-false_of_not-eq-true', and_elim_left, and_elim_right}
@@ -24,7 +24,7 @@ module _ {P : Type 0} {le : P → P → Bool} (L : TotalPreorder le) (lo hi : P)
   pub longest : (b : Option P) (T : List (Range P)) → Asc le b T → ((c : P) → within le lo hi c ≡ true → mem le T c ≡ true)
       → Covered le lo hi T
   longest b [] a m = false≢true (m lo within_start)
-  longest b (r ∷ T) a m = go (le r.hi lo) refl (longest (some r.hi) T a.2)
+  longest b (r ∷ T) a m = go (le r.hi lo) refl (longest (Some r.hi) T a.2)
     where
       -- the stretch starts past r: r does not count
       later : le r.hi lo ≡ true → (c : P) → within le lo hi c ≡ true → mem le T c ≡ true
@@ -44,7 +44,7 @@ pub table_longest : {P : Type 0} {le : P → P → Bool} (L : TotalPreorder le) 
     (ss : List (Shape P)) → All (Proper le) ss → (lo hi : P) → le hi lo ≡ false
     → ((c : P) → within le lo hi c ≡ true → all le ss c ≡ true) → Covered le lo hi (table le bot top ss)
 table_longest {P} {le} L {bot} {top} B ss p lo hi filled m =
-    longest L lo hi filled none (table le bot top ss) (table_asc L B ss p) (λ c w. mem_table L B ss c (under c w) ∙ m c w)
+    longest L lo hi filled None (table le bot top ss) (table_asc L B ss p) (λ c w. mem_table L B ss c (under c w) ∙ m c w)
   where
     under : (c : P) → within le lo hi c ≡ true → le top c ≡ false
     under c w = lt_le_trans L (eq-false_of_not-eq-true' (and_elim_right (le lo c) (not (le hi c)) w)) (B.greatest hi)

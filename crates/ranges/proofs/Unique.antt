@@ -1,8 +1,8 @@
 -- Two ascending lists of ranges that hold the same cuts have the same ends, up to equality in order: the first lower ends are at most each
 -- other, then the first upper ends, and then the rests hold the same cuts. Assumes nothing.
+use Rattle.std.specs.Prelude.{Option, None, Some}
 use mathlib.Core.Path.{◌≡◌, refl, sym, ◌∙◌}
 use mathlib.Core.List.{List, [], ◌∷◌}
-use mathlib.Core.Option.{Option, none, some}
 use mathlib.Core.Bool.{Bool, true, false, and-false, false≢true}
 use mathlib.Mathlib.Data.Bool.Basic.{eq-true_of_not-eq-false}
 use Rattle.order.specs.All.{All}
@@ -22,7 +22,7 @@ mem_past le r T c h = rw (h, and-false (le r.lo c))
 
 module _ {P : Type 0} {le : P → P → Bool} (L : TotalPreorder le) where
   -- ranges that ascend above b hold nothing up to b
-  mem_below : (b c : P) → le c b ≡ true → (T : List (Range P)) → Asc le (some b) T → mem le T c ≡ false
+  mem_below : (b c : P) → le c b ≡ true → (T : List (Range P)) → Asc le (Some b) T → mem le T c ≡ false
   mem_below b c h [] a = refl
   mem_below b c h (r ∷ T) a =
       rw (le_lt_trans L h a.0) (mem_below r.hi c (L.trans h (L.trans (L.total a.0) (L.total a.1))) T a.2)
@@ -57,7 +57,7 @@ module _ {P : Type 0} {le : P → P → Bool} (L : TotalPreorder le) where
       let yx : le y.lo x.lo ≡ true = mem_from d y U u x.lo (sym (m x.lo) ∙ mem_start b x T a) in
       let h : le y.hi x.hi ≡ true = stops_by b x y T U a yx (m x.hi) in
       let k : le x.hi y.hi ≡ true = stops_by d y x U T u xy (sym (m y.hi)) in
-      ((xy, yx), (k, h), unique (some x.hi) (some y.hi) T U a.2 u.2 (λ c. rests h k c (le x.hi c) refl))
+      ((xy, yx), (k, h), unique (Some x.hi) (Some y.hi) T U a.2 u.2 (λ c. rests h k c (le x.hi c) refl))
     where
       rests : le y.hi x.hi ≡ true → le x.hi y.hi ≡ true → (c : P) (q : Bool) → le x.hi c ≡ q → mem le T c ≡ mem le U c
       rests h k c true e = sym (mem_past le x T c e) ∙ m c ∙ mem_past le y U c (L.trans h e)
@@ -70,9 +70,9 @@ module _ {P : Type 0} {le : P → P → Bool} (L : TotalPreorder le) where
     mem_top c h (r ∷ T) = mem_past le r T c (L.trans (B.greatest r.hi) h) ∙ mem_top c h T
 
     -- ascending ranges that hold exactly what all shapes accept are the table, but for the choice between equal ends
-    pub table_unique : (ss : List (Shape P)) → All (Proper le) ss → (T : List (Range P)) → Asc le none T
+    pub table_unique : (ss : List (Shape P)) → All (Proper le) ss → (T : List (Range P)) → Asc le None T
         → ((c : P) → le top c ≡ false → mem le T c ≡ all le ss c) → SameEnds le T (table le bot top ss)
-    table_unique ss p T a m = unique none none T (table le bot top ss) a (table_asc L B ss p) (λ c. each c (le top c) refl)
+    table_unique ss p T a m = unique None None T (table le bot top ss) a (table_asc L B ss p) (λ c. each c (le top c) refl)
       where
         each : (c : P) (q : Bool) → le top c ≡ q → mem le T c ≡ mem le (table le bot top ss) c
         each c true e = mem_top c e T ∙ sym (mem_top c e (table le bot top ss))

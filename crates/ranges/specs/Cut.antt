@@ -1,7 +1,6 @@
 -- Cuts between the values of a compared type. A value x itself stands at the cut `before x`: a range holds it exactly if it holds that cut,
 -- whatever kinds of end the range has. Definitions only; assumes nothing.
-use Rattle.std.proofs.Math.Option.{Option, none, some}
-use Rattle.std.specs.Prelude.{Bool}
+use Rattle.std.specs.Prelude.{Bool, Option, None, Some}
 use Prim.Native.Nat.{ℕ, compare}
 use Rattle.order.specs.Compare.{Comparison, by, lex, option}
 use Rattle.order.specs.Preorder.{at_most}
@@ -21,10 +20,10 @@ module _ {X : Type 0} where
 
   -- the value that the cut stands at
   abbrev pub value : Cut X → Option X
-  value bot = none
-  value (before x) = some x
-  value (after x) = some x
-  value top = none
+  value bot = None
+  value (before x) = Some x
+  value (after x) = Some x
+  value top = None
 
   -- at one value, before lies below after
   abbrev pub side : Cut X → ℕ

@@ -1,6 +1,5 @@
 -- What is asked of a table, whoever made it, and what is said of tables besides. Definitions only; assumes nothing.
-use Rattle.std.specs.Prelude.{◌≡◌, List, [], ◌∷◌, map, Bool, true, false, cond, ◌&&◌, ◌⊎◌}
-use Rattle.std.proofs.Math.Option.{Option, none, some}
+use Rattle.std.specs.Prelude.{◌≡◌, List, [], ◌∷◌, map, Bool, true, false, cond, ◌&&◌, ◌⊎◌, Option, None, Some}
 use Rattle.order.specs.All.{All}
 use Rattle.ranges.specs.Range.{Range, mem}
 use Rattle.ranges.specs.Shape.{Shape, lower_end, upper_end, all}
@@ -8,22 +7,22 @@ use Rattle.ranges.specs.Shape.{Shape, lower_end, upper_end, all}
 module _ {P : Type 0} (le : P → P → Bool) where
   -- x lies strictly above b, if there is a b
   abbrev pub Beyond : Option P → P → Type 0
-  Beyond none x = Unit {0}
-  Beyond (some b) x = le x b ≡ false
+  Beyond None x = Unit {0}
+  Beyond (Some b) x = le x b ≡ false
 
   -- the ends lie above b and ascend strictly: no range is empty, and neighbours do not touch
   abbrev pub Asc : Option P → List (Range P) → Type 0
   Asc b [] = Unit {0}
-  Asc b (r ∷ T) = Beyond b r.lo × (le r.hi r.lo ≡ false) × Asc (some r.hi) T
+  Asc b (r ∷ T) = Beyond b r.lo × (le r.hi r.lo ≡ false) × Asc (Some r.hi) T
 
   -- the first of a list that is equal to e in order
   abbrev pub first : P → List P → Option P
-  first e [] = none
-  first e (x ∷ l) = cond (le x e && le e x) (some x) (first e l)
+  first e [] = None
+  first e (x ∷ l) = cond (le x e && le e x) (Some x) (first e l)
 
   -- that first one is e itself
   abbrev pub IsFirst : List P → P → Type 0
-  IsFirst l e = first e l ≡ some e
+  IsFirst l e = first e l ≡ Some e
 
   -- every lower end is the first, of bot and the lower ends of the shapes, of those equal to it in order; and so the upper ends with top
   abbrev pub Firsts : P → P → List (Shape P) → List (Range P) → Type 0
@@ -32,7 +31,7 @@ module _ {P : Type 0} (le : P → P → Bool) where
   -- T is the table of the shapes: its ranges ascend; they hold, of all that lies below top, exactly what every shape accepts; and where the
   -- shapes give several equal ends, the first of them stands
   pub record IsTable (bot top : P) (ss : List (Shape P)) (T : List (Range P)) : Type 0 where
-    pub ascends : Asc none T
+    pub ascends : Asc None T
     pub holds : (c : P) → le top c ≡ false → mem le T c ≡ all le ss c
     pub firsts : Firsts bot top ss T
 

@@ -1,18 +1,14 @@
 -- The ways of `two_at` and `record_at`, and what is known of what they answer.
 -- Assumes nothing.
-use mathlib.Core.Path.{◌≡◌}
-use mathlib.Core.Logic.{inl, inr}
-use mathlib.Core.List.{List, [], ◌∷◌}
+use mathlib.Core.Path.{◌≡◌, refl}
+use mathlib.Core.List.{List}
 use Prim.Native.Nat.{ℕ, ◌+◌, ◌-◌, ◌≤◌, ◌<◌}
 use native.Mathlib.Omega.{arith}
 use lib.ListN.{length, get_or-eq_default}
-use types.Run.{OneOf}
-use denote.Enum.Declared.{tag_of}
 use borrow.Author.Tests.{lt-ltb, le-ltb, le-leb, lt-leb}
 use Rattle.records.specs.declared.record.RecordAt.{RecordAt}
 use Rattle.records.specs.declared.record.RecordAt.TheVariants.{Found, Cut, Nothing}
 use Rattle.records.specs.Record.{two_at, record_at, start_of, next_of}
-use Rattle.records.specs.contracts.record.RecordAt.{the_type}
 
 module _ (s : List ℕ) (at : ℕ) where
   pub two_past : length s ≤ at → 0 ≡ two_at s at
@@ -47,11 +43,10 @@ module _ (r : RecordAt) (kind start next n : ℕ) (f : r ≡ Found kind start ne
 
 -- what is known in the `else` of `let RecordAt::Found(..) = r`
 abbrev pub NotFound : RecordAt → Type 0
-NotFound r = OneOf (1 ∷ 2 ∷ []) (tag_of the_type r)
+NotFound r = (kind start next : ℕ) → r ≡ Found kind start next → ⊥
 
 -- who says the same of a record that is cut and of none says that of what was not found
 pub not_found : {A : Type 0} (said : RecordAt → A) (a : A) → said Cut ≡ a → said Nothing ≡ a → (r : RecordAt) → NotFound r → said r ≡ a
-not_found said a e f (Found kind start next) (inl g) = absurd (omega arith)
-not_found said a e f (Found kind start next) (inr g) = absurd (omega arith)
-not_found said a e f Cut h = e
-not_found said a e f Nothing h = f
+not_found said a e f (Found kind start next) other = absurd (other kind start next refl)
+not_found said a e f Cut other = e
+not_found said a e f Nothing other = f

@@ -5,7 +5,7 @@ ghost use Rattle.records.specs.Record.{RecordRead, head_text};
 use crate::two_bytes::{put_two, two_at};
 
 // What stands at a place: a whole record, with its kind, the place where its body starts and the place after it; some bytes of a record, but
-// not all; or no byte at all.
+// not all; or no byte at all. No Option: a record that is cut short is told apart from none.
 #[derive(Clone, Copy)]
 pub enum RecordAt {
     Found(usize, usize, usize),

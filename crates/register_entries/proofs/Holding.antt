@@ -2,12 +2,11 @@
 -- Assumes nothing.
 use mathlib.Core.Path.{◌≡◌, sym, ◌∙◌}
 use mathlib.Core.List.{List, [], ◌∷◌, ◌++◌, append_assoc}
-use Prim.Native.Nat.{ℕ, ◌+◌, ◌≤◌, ◌<◌, min}
+use Prim.Native.Nat.{ℕ, ◌≤◌, ◌<◌, min}
 use native.Mathlib.Decide.{dec_lt}
-use native.Mathlib.Numerals.{add-one}
 use native.Mathlib.Omega.{arith}
-use lib.ListN.{length, get_or, take, set, replicate, length-append, length-take, length-replicate, replicate-append-replicate}
-use lib.Seq.{take-take, take-append-le, take-length, take_all, take-set-lt, set-append_seam, append_snoc, take-suc}
+use lib.ListN.{length, take, set, replicate, length-append, length-take, length-replicate, replicate-append-replicate}
+use lib.Seq.{take-take, take-append-le, take-length, take_all, take-set-lt, set-append_seam, append_snoc}
 use borrow.Author.Tests.{lt-ltb, le-ltb}
 use Rattle.register_entries.specs.declared.entry.Entry.{Entry}
 use Rattle.register_entries.specs.declared.held.Held.{Held}
@@ -23,11 +22,6 @@ entries_again es =
     ∙ take-append-le m es (replicate 65 blank) (omega arith)
     ∙ sym (take-take m 65 es (omega arith))
     ∙ take-length (take 65 es)
-
--- 65 tells a list over 64
-pub held_count : (es : List Entry) → (held_of es).count ≡ min 65 (length es)
-unfolding held_of
-held_count es = length-take 65 es
 
 -- two that are made are the same by their fields
 same : {l k : List Entry} {m n : ℕ} → l ≡ k → m ≡ n → ◌≡◌ {A = Held} (record { list = l; count = m }) (record { list = k; count = n })
@@ -69,32 +63,6 @@ one_more es e =
           rw (le-ltb (length (take 65 es)) 65 (omega arith))
           (same_first es (es ++ (e ∷ [])) (omega arith) (omega arith) (sym (take-append-le 65 es (e ∷ []) (omega arith))))
     ]
-
--- a loop that goes through a list, and gathers its first entries
-pub gather_turn : (es : List Entry) (i : ℕ) → i < length es → with_entry (held_of (take i es)) (get_or es i blank) ≡ held_of (take (i + 1) es)
-gather_turn es i h = one_more (take i es) (get_or es i blank) ∙ rw (add-one, take-suc es i blank h)
-
-pub gather_end : (es : List Entry) → held_of (take (min (length es) 65) es) ≡ held_of es
-gather_end es =
-    elim (dec_lt (length es) 65) [
-      | yes h ↦ rw (take_all (min (length es) 65) es (omega arith))
-      | no h ↦
-          let n : min (length es) 65 ≡ 65 = omega arith in
-          rw n (same_first (take 65 es) es (omega (arith, length-take 65 es)) (omega arith) (take-take 65 65 es (omega arith)))
-    ]
-
--- the ways out of `none_held` and `with_entry`
-pub none_held : (r : Held) → r ≡ record { list = replicate 65 blank; count = 0 } → r ≡ held_of []
-unfolding held_of
-none_held r e = e
-
-pub with_room : (h r : Held) (e : Entry) → h.count < 65 → r ≡ record { list = set h.list h.count e; count = h.count + 1 } → r ≡ with_entry h e
-unfolding with_entry
-with_room h r e k f = rw (lt-ltb h.count 65 k) f
-
-pub without_room : (h : Held) (e : Entry) → 65 ≤ h.count → h ≡ with_entry h e
-unfolding with_entry
-without_room h e k = rw (le-ltb h.count 65 k)
 
 -- a list by value that is lent
 pub held_whole : (h : Held) → length h.list ≡ 65 → take (min h.count 65) h.list ≡ entries_in h

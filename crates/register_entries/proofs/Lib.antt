@@ -1,5 +1,2 @@
-pub mod Lending
 pub mod Holding
 pub mod Numbered
-pub mod Firsts
-pub mod Identified

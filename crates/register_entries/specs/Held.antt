@@ -1,5 +1,6 @@
 -- The first 65 entries of a list, in an array.
-use Rattle.std.specs.Prelude.{Bool, true, false, cond, List, [], ◌∷◌, ◌++◌, ℕ, ◌+◌, eqb, ltb, length, get_or, take, drop, set, replicate}
+use Rattle.std.specs.Prelude.{Bool, cond, List, [], ◌∷◌, ◌++◌, ℕ, ◌+◌, ◌==◌, ltb, length, get_or, take, drop, set, replicate}
+use Rattle.std.specs.List.{list_any}
 use Rattle.register_entries.specs.declared.entry.Entry.{Entry}
 use Rattle.register_entries.specs.declared.held.Held.{Held}
 
@@ -28,5 +29,4 @@ entries_of (id ∷ ids) starts lengths = entry_of id (get_or starts 0 0) (get_or
 
 -- whether one of the entries has an identifier
 unfoldable pub has : ℕ → List Entry → Bool
-has id [] = false
-has id (e ∷ es) = cond (eqb e.id id) true (has id es)
+has id es = list_any (λ e. e.id == id) es

@@ -1,5 +1,4 @@
-pub mod Lowests
-pub mod Guilty
+pub mod Keeping
 pub mod Searching
 pub mod Fitting
 pub mod Whole

@@ -4,28 +4,27 @@ ghost use Rattle.register_entries.specs.Held.{entries_in, entries_of};
 ghost use Rattle.register_rules.specs.Fit.{fit_of};
 
 use crate::lent::fitting;
-use register_entries::gathered::{capped, gathered_numbers};
+use answers::RefusedInput;
 use register_entries::held::Held;
-use register_rules::fit::Fit;
+use register_rules::lowest::Lowest;
 
 // Entries that are held by value.
-pub fn fit_held(held: Held, buffer: &[u8], text: &[u8]) -> Fit
+pub fn fit_held(held: Held, buffer: &[u8], text: &[u8]) -> Result<Lowest, RefusedInput>
     ensures { result ≡ fit_of (entries_in held) buffer.now text.now }
 {
-    let count = capped(held.count);
-    let list = held.list;
-    fitting(&list[..count], buffer, text)
+    fitting(held.entries(), buffer, text)
 }
 
 // An entry for each identifier; a start or a length that is missing is 0.
+#[tactic(auto, using(crate::proofs::Whole::fit_gathered))]
 pub fn fit_numbers(
     ids: &[u16],
     starts: &[usize],
     lengths: &[usize],
     buffer: &[u8],
     text: &[u8],
-) -> Fit
+) -> Result<Lowest, RefusedInput>
     ensures { result ≡ fit_of (entries_of ids.now starts.now lengths.now) buffer.now text.now }
 {
-    fit_held(gathered_numbers(ids, starts, lengths), buffer, text)
+    fit_held(Held::of_numbers(ids, starts, lengths), buffer, text)
 }

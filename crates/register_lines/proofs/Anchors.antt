@@ -21,11 +21,10 @@ use Rattle.list_accepting.specs.Accept.{holds, accepted}
 use Rattle.list_ends.specs.Shape.{ranges_of}
 use Rattle.records.specs.Record.{two_bytes_of, record_text}
 use Rattle.table_reading.specs.Text.{ranges_text, table_text}
-use Rattle.register_entries.specs.Held.{held_of, entries_in}
-use Rattle.register_entries.specs.Held.{has}
+use Rattle.register_entries.specs.Held.{held_of, entries_in, has}
 use Rattle.register_lines.specs.Line.{id_said, id_of, list_in}
 use Rattle.register_lines.specs.Enter.{empty_shelf, entered}
-use Rattle.register_lines.specs.Shelved.{taken, refusal_behind, acceptors}
+use Rattle.register_lines.specs.Shelved.{taken, refusal_in, refusal_behind, acceptors}
 
 -- a line with its identifier, which is 0 where it has none, and its list
 record Point : Type 0 where
@@ -76,7 +75,7 @@ unfolding computed computed_list starred listed label_from value_of compare_rele
 in_their_order = refl
 
 -- a table of 17 bytes, with room for it and with a byte too little
-pub first_line : map (λ n. (entered (replicate n 0) empty_shelf (ascii "7 >=4.2")).refusal) (17 ∷ 16 ∷ []) ≡ refusal 0 0 ∷ refusal 11 17 ∷ []
+pub first_line : map (λ n. refusal_in (entered (replicate n 0) empty_shelf (ascii "7 >=4.2"))) (17 ∷ 16 ∷ []) ≡ refusal 0 0 ∷ refusal 11 17 ∷ []
 unfolding computed computed_list starred listed label_from value_of value_text compare_release compare_key compare_public id_of id_said list_in ranges_of two_bytes_of
     record_text ranges_text table_text answer filled held_of entries_in has empty_shelf entered
 first_line = refl

@@ -15,25 +15,26 @@ use Rattle.register_rules.proofs.Breaking.{not_had}
 use Rattle.register_rules.proofs.Answers.{sound_fit}
 use Rattle.register_lines.specs.declared.shelf.Shelf.{Shelf}
 use Rattle.register_lines.specs.Enter.{entered}
-use Rattle.register_lines.specs.Shelved.{Shelved, refusal_behind, acceptors}
+use Rattle.register_lines.specs.Shelved.{Shelved, refusal_in, refusal_behind, acceptors}
 use Rattle.register_lines.proofs.Filed.{none_zero, all_within, all_well_formed, fitting_accepts}
 use Rattle.register_lines.proofs.Shelves.{turned_away, stored, held_are, outcome, in_order}
 
 module _ {lines : List (List ℕ)} {tables : List ℕ} {shelf : Shelf} (h : Shelved lines tables shelf) where
   -- a line is refused by the lines before it and its own list, and by nothing that is held of them
-  pub shelved_refuses : (line : List ℕ) → (entered tables shelf line).refusal ≡ refusal_behind lines line
+  pub shelved_refuses : (line : List ℕ) → refusal_in (entered tables shelf line) ≡ refusal_behind lines line
   shelved_refuses line =
       elim (outcome lines tables shelf (in_order h) line) [
-        | turned_away x p is e f ↦ ap (λ r. r.refusal) e ∙ is
-        | stored cs l few some new is e f ↦ ap (λ r. r.refusal) e ∙ is
+        | turned_away x p is e f ↦ ap refusal_in e ∙ is
+        | stored cs l few some new is e f ↦ ap refusal_in e ∙ is
       ]
 
   -- so there is always room for its table
-  pub no_eleven : (line : List ℕ) → (entered tables shelf line).refusal.number ≡ 11 → ⊥
+  pub no_eleven : (line : List ℕ) → (refusal_in (entered tables shelf line)).number ≡ 11 → ⊥
   no_eleven line eleven =
       elim (outcome lines tables shelf (in_order h) line) [
-        | turned_away x p is e f ↦ p.other (sym (ap (λ r. r.refusal.number) e) ∙ eleven)
-        | stored cs l few some new is e f ↦ let impossible : ◌≡◌ {A = ℕ} 0 11 = sym (ap (λ r. r.refusal.number) e) ∙ eleven in omega (arith, impossible)
+        | turned_away x p is e f ↦ p.other (sym (ap (λ r. (refusal_in r).number) e) ∙ eleven)
+        | stored cs l few some new is e f ↦
+            let impossible : ◌≡◌ {A = ℕ} 0 11 = sym (ap (λ r. (refusal_in r).number) e) ∙ eleven in omega (arith, impossible)
       ]
 
   -- the answer to a version is that of the lists themselves, clause by clause, and no refusal of the register shows

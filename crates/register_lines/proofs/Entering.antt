@@ -1,50 +1,30 @@
 -- The ways of entering a line.
 -- Assumes nothing.
-use mathlib.Core.Path.{◌≡◌, refl, ap}
+use Rattle.std.specs.Prelude.{Result, Ok, Err}
+use mathlib.Core.Path.{◌≡◌, refl, sym, ◌∙◌, ap}
 use mathlib.Core.Bool.{Bool, true, false}
 use mathlib.Core.List.{List, [], ◌∷◌, ◌++◌, append-nil}
-use Prim.Native.Nat.{ℕ, suc, ◌+◌, ◌-◌, ◌^◌, ◌≤◌, ◌<◌}
+use Prim.Native.Nat.{ℕ, suc, ◌+◌, ◌-◌, ◌≤◌, ◌<◌}
 use native.Mathlib.Omega.{arith}
 use lib.Dec.{ltb}
-use lib.ListN.{length, take, drop, drop_of_length-le, length-take, length-drop}
-use lib.Seq.{take_all, length-take-le}
-use mir.Val.{Fits}
-use mir.Syntax.{w64}
-use borrow.Author.Tests.{lt-ltb, le-ltb, ltb-false, eq-eqb, ne_eqb}
+use lib.ListN.{length, take, drop, drop_of_length-le, length-drop}
+use lib.Seq.{take_all}
+use borrow.Author.Tests.{ltb-false}
 use borrow.Rule.Slice.PartMut.{put_mid, mid_of}
 use Rattle.chars.proofs.Parts.{take_rest}
 use Rattle.answers.specs.declared.Refusal.{Refusal}
-use Rattle.answers.specs.declared.Measured.{Measured}
-use Rattle.answers.specs.declared.Measured.TheVariants.{Length, Refused}
-use Rattle.answers.specs.Refusal.{refusal}
 use Rattle.answers.specs.Printed.{answer, filled, answer_if, filled_if}
 use Rattle.list_clauses.specs.List.{Listing, refused, clauses, list_of}
 use Rattle.list_ends.specs.Shape.{ranges_of}
 use Rattle.table_reading.specs.Text.{table_text}
 use Rattle.table_compile.specs.Compiled.{answer_to, filled_to, Compiled}
+use Rattle.register_entries.specs.declared.entry.Entry.{Entry}
 use Rattle.register_entries.specs.declared.held.Held.{Held}
-use Rattle.register_entries.specs.Held.{entry_of, held_of, entries_in, with_entry}
-use Rattle.register_entries.specs.Held.{has}
-use Rattle.register_rules.specs.Fit.{most}
+use Rattle.register_entries.specs.Held.{entry_of, entries_in, with_entry}
 use Rattle.register_lines.specs.declared.shelf.Shelf.{Shelf}
-use Rattle.register_lines.specs.declared.shelf.Entered.{Entered}
 use Rattle.register_lines.specs.Line.{id_of, list_in}
-use Rattle.register_lines.specs.Enter.{empty_shelf, line_refusal, end_behind, ListPut, placed, entered, tables_after, Entering}
-
-pub empty_is : (held : Held) → held ≡ held_of [] → record { held = held; used = 0 } ≡ empty_shelf
-unfolding empty_shelf
-empty_is held e = rw e
-
--- `place`
-pub end_fits : (used n : ℕ) (written : Measured) → end_behind used written < 2 ^ 64 → written ≡ Length n → Fits w64 (used + n)
-end_fits used n written h e = let small : end_behind used (Length n) < 2 ^ 64 = rw e at h in record { fits = small }
-
-pub placed_behind : (shelf : Shelf) (id n : ℕ) (written : Measured) (held : Held) → written ≡ Length n → held ≡ with_entry shelf.held (entry_of id shelf.used n) →
-    record { refusal = refusal 0 0; shelf = record { held = held; used = shelf.used + n } } ≡ placed shelf id written
-placed_behind shelf id n written held e f = rw (e, f)
-
-pub placed_refused : (shelf : Shelf) (id : ℕ) (written : Measured) (x : Refusal) → written ≡ Refused x → record { refusal = x; shelf = shelf } ≡ placed shelf id written
-placed_refused shelf id written x e = rw e
+use Rattle.register_lines.proofs.Kept.{refused_keeps}
+use Rattle.register_lines.specs.Enter.{line_refusal, end_behind, ListPut, placed, entered, tables_after, Entering}
 
 -- what a list's answer ends at, in a buffer of `size` bytes
 ends_if : (used size : ℕ) (text : List ℕ) (short : Bool) → ltb size (length text) ≡ short → end_behind used (answer_if short text) ≤ used + size
@@ -68,7 +48,7 @@ nothing_filled (refused number place) = refl
 nothing_filled (clauses cs) = nothing_if (table_text (ranges_of cs)) (ltb 0 (length (table_text (ranges_of cs)))) refl
 
 -- `put_list`
-module _ (tables : List ℕ) (used : ℕ) (list : List ℕ) (r : Measured) where
+module _ (tables : List ℕ) (used : ℕ) (list : List ℕ) (r : Result ℕ Refusal) where
   pub list_past : (old new : List ℕ) → length tables < used → old ≡ [] → Compiled list old new r → ListPut tables used list tables r
   list_past old new h e c =
       let past : length tables ≤ used = omega arith in
@@ -92,49 +72,42 @@ module _ (tables : List ℕ) (used : ℕ) (list : List ℕ) (r : Measured) where
         within = let z = ends_by used (drop used tables) (list_of list) in rw d.answers (omega (arith, z, length-drop used tables));
       }
 
--- `line_refusal`
-module _ (held : Held) (long : length held.list ≡ 65) (id : ℕ) where
-  count_is : held.count ≤ 65 → length (entries_in held) ≡ held.count
-  unfolding entries_in
-  count_is h = length-take-le held.count held.list (omega arith)
+-- `enter`, by the refusal that does not depend on the list and by the list's answer
+module _ (tables : List ℕ) (shelf : Shelf) (line : List ℕ) (id : ℕ) (es : List Entry) (early : Result (Unit {0}) Refusal) (named : id ≡ id_of line)
+    (lent : es ≡ entries_in shelf.held) (told : early ≡ line_refusal es id) where
+  is : early ≡ line_refusal (entries_in shelf.held) id
+  is = rw lent at told
 
-  pub refused_full : 63 < held.count → refusal 30 most ≡ line_refusal (entries_in held) id
-  unfolding entries_in
-  refused_full h = rw (le-ltb (length (entries_in held)) most (omega (arith, length-take held.count held.list)))
-
-  module _ (few : held.count ≤ 63) where
-    room : ltb (length (entries_in held)) most ≡ true
-    room = lt-ltb (length (entries_in held)) most (omega (arith, count_is (omega arith)))
-
-    pub refused_zero : id ≡ 0 → refusal 31 0 ≡ line_refusal (entries_in held) id
-    refused_zero e = rw (room, eq-eqb id 0 e)
-
-    module _ (some : id ≡ 0 → ⊥) (r : Bool) (is : r ≡ has id (take held.count held.list)) where
-      pub refused_taken : r ≡ true → refusal 32 0 ≡ line_refusal (entries_in held) id
-      unfolding entries_in
-      refused_taken e = rw (room, ne_eqb id 0 some, ← is, e)
-
-      pub not_refused : r ≡ false → refusal 0 0 ≡ line_refusal (entries_in held) id
-      unfolding entries_in
-      not_refused e = rw (room, ne_eqb id 0 some, ← is, e)
-
--- `enter`
-module _ (tables : List ℕ) (shelf : Shelf) (line : List ℕ) (id : ℕ) (x : Refusal) (named : id ≡ id_of line)
-    (is : x ≡ line_refusal (entries_in shelf.held) id) where
-  pub enter_refused : (x.number ≡ 0 → ⊥) → Entering tables shelf line tables (record { refusal = x; shelf = shelf })
+  pub enter_refused : (x : Refusal) → early ≡ Err x → Entering tables shelf line tables (Err x)
   unfolding entered tables_after
-  enter_refused h =
-      record {
-        answers = rw (← named, ← is, ne_eqb x.number 0 h);
-        leaves = rw (← named, ← is, ne_eqb x.number 0 h);
-      }
+  enter_refused x e =
+      let f : line_refusal (entries_in shelf.held) (id_of line) ≡ Err x = rw (← named) (sym is ∙ e) in
+      record { answers = rw f; leaves = rw f; kept = λ y h. refl }
 
-  pub enter_placed : (list new : List ℕ) (written : Measured) (r : Entered) → x.number ≡ 0 → list ≡ list_in line → ListPut tables shelf.used list new written →
-      r ≡ placed shelf id written → Entering tables shelf line new r
-  unfolding entered tables_after
-  enter_placed list new written r h e p q =
-      let put : ListPut tables shelf.used (list_in line) new written = rw e at p in
-      record {
-        answers = rw (← named, ← is, eq-eqb x.number 0 h, ← put.answers) q;
-        leaves = rw (← named, ← is, eq-eqb x.number 0 h) put.leaves;
-      }
+  module _ (u : Unit {0}) (free : early ≡ Ok u) (list new : List ℕ) (written : Result ℕ Refusal) (listed : list ≡ list_in line)
+      (put : ListPut tables shelf.used list new written) where
+    no_early : line_refusal (entries_in shelf.held) (id_of line) ≡ Ok u
+    no_early = rw (← named) (sym is ∙ free)
+
+    answered : placed shelf id written ≡ entered tables shelf line
+    unfolding entered
+    answered = let p : ListPut tables shelf.used (list_in line) new written = rw listed at put in rw (no_early, ← named, ← p.answers)
+
+    left : new ≡ tables_after tables shelf line
+    unfolding tables_after
+    left = let p : ListPut tables shelf.used (list_in line) new written = rw listed at put in rw no_early p.leaves
+
+    by_answer : (r : Result Shelf Refusal) → r ≡ placed shelf id written → Entering tables shelf line new r
+    by_answer r e =
+        record {
+          answers = e ∙ answered;
+          leaves = left;
+          kept = λ x f. left ∙ refused_keeps tables shelf line x (sym (e ∙ answered) ∙ f);
+        }
+
+    pub enter_unwritten : (x : Refusal) → written ≡ Err x → Entering tables shelf line new (Err x)
+    enter_unwritten x e = by_answer (Err x) (rw e)
+
+    pub enter_placed : (n : ℕ) (held : Held) → written ≡ Ok n → held ≡ with_entry shelf.held (entry_of id shelf.used n) →
+        Entering tables shelf line new (Ok (record { held = held; used = shelf.used + n }))
+    enter_placed n held e f = by_answer (Ok (record { held = held; used = shelf.used + n })) (rw (e, f))

@@ -1,7 +1,7 @@
 pub mod Anchors
 pub mod Lines
-pub mod Entering
 pub mod Kept
+pub mod Entering
 pub mod Numbers
 pub mod Filed
 pub mod Shelves

@@ -1,5 +1,6 @@
 -- A shelf that came of lines: what holds of it, and what comes of one line more.
 -- Assumes nothing.
+use Rattle.std.specs.Prelude.{Result, Ok, Err}
 use mathlib.Core.Path.{◌≡◌, refl, sym, ◌∙◌, ap}
 use mathlib.Core.Bool.{false, cond}
 use mathlib.Core.List.{List, [], ◌∷◌, ◌++◌}
@@ -11,7 +12,6 @@ use lib.ListN.{length, take, drop, length-append, length-drop, get_or-append, ta
 use lib.Seq.{take_all, take_at, drop_at, take-append-le, take-append_seam, length-take-le, get_or-append_seam}
 use borrow.Author.Tests.{lt-ltb, le-ltb, eq-eqb, ne_eqb}
 use Rattle.answers.specs.declared.Refusal.{Refusal}
-use Rattle.answers.specs.declared.Measured.TheVariants.{Length}
 use Rattle.answers.specs.Refusal.{refusal}
 use Rattle.answers.specs.Printed.{answer, filled}
 use Rattle.version.proofs.Answers.{flag_cases, holds, fails}
@@ -27,10 +27,14 @@ use Rattle.register_rules.specs.Guilt.{entry_at}
 use Rattle.register_rules.specs.Fit.{most}
 use Rattle.register_lines.specs.declared.shelf.Shelf.{Shelf}
 use Rattle.register_lines.specs.Line.{id_of, list_in}
-use Rattle.register_lines.specs.Enter.{empty_shelf, line_refusal, refused_as, placed, entered, tables_after}
+use Rattle.register_lines.specs.Enter.{empty_shelf, line_refusal, placed, entered, tables_after}
 use Rattle.register_lines.specs.Shelved.{room_for_all, Shelved, nothing, one_more, taken, refusal_behind}
 use Rattle.register_lines.proofs.Numbers.{Proper, behind_eleven, list_proper}
+use Rattle.register_lines.proofs.Kept.{no_refusal}
 use Rattle.register_lines.proofs.Filed.{Filed, AllFiled, none, all_kept, file_behind, as_many, has_taken}
+
+one_shelf : {s t : Shelf} → ◌≡◌ {A = Result Shelf Refusal} (Ok s) (Ok t) → s ≡ t
+one_shelf e = cc
 
 -- no two entries have one identifier
 abbrev pub Apart : List Entry → Type 0
@@ -87,34 +91,33 @@ module _ (tables text : List ℕ) (used : ℕ) (fits : used + length text ≤ le
 
 -- what comes of one line more
 pub data Outcome (lines : List (List ℕ)) (tables : List ℕ) (shelf : Shelf) (line : List ℕ) : Type 0 where
-  turned_away : (x : Refusal) → Proper x.number → x ≡ refusal_behind lines line → entered tables shelf line ≡ refused_as x shelf →
+  turned_away : (x : Refusal) → Proper x.number → x ≡ refusal_behind lines line → entered tables shelf line ≡ Err x →
       tables_after tables shelf line ≡ tables → Outcome lines tables shelf line
   stored : (cs : List Clause) → list_of (list_in line) ≡ clauses cs → length lines < most → (id_of line ≡ 0 → ⊥) → taken (id_of line) lines ≡ false →
       refusal 0 0 ≡ refusal_behind lines line →
-      entered tables shelf line ≡ placed shelf (id_of line) (Length (length (table_text (ranges_of cs)))) →
+      entered tables shelf line ≡ placed shelf (id_of line) (Ok (length (table_text (ranges_of cs)))) →
       tables_after tables shelf line
       ≡ take shelf.used tables ++ (table_text (ranges_of cs) ++ drop (length (table_text (ranges_of cs))) (drop shelf.used tables)) →
       Outcome lines tables shelf line
 
 module _ (lines : List (List ℕ)) (tables : List ℕ) (shelf : Shelf) (s : InOrder lines tables shelf) (line : List ℕ) where
   -- the refusal that does not depend on the list, by the lines
-  early : Refusal
+  early : Result (Unit {0}) Refusal
   early =
       cond (ltb (length lines) most)
-      (cond (eqb (id_of line) 0) (refusal 31 0) (cond (taken (id_of line) lines) (refusal 32 0) (refusal 0 0)))
-      (refusal 30 most)
+      (cond (eqb (id_of line) 0) (Err (refusal 31 0)) (cond (taken (id_of line) lines) (Err (refusal 32 0)) (Ok tt)))
+      (Err (refusal 30 most))
 
   early_is : line_refusal (entries_in shelf.held) (id_of line) ≡ early
   unfolding early
   early_is = rw (held_are s, as_many shelf.used tables s.filed, has_taken shelf.used tables (id_of line) s.filed)
 
-  away : (x : Refusal) → Proper x.number → early ≡ x → x ≡ refusal_behind lines line → Outcome lines tables shelf line
+  away : (x : Refusal) → Proper x.number → early ≡ Err x → x ≡ refusal_behind lines line → Outcome lines tables shelf line
   unfolding entered tables_after
-  away x p e f =
-      turned_away x p f (rw (early_is, e, ne_eqb x.number 0 p.some)) (rw (early_is, e, ne_eqb x.number 0 p.some))
+  away x p e f = turned_away x p f (rw (early_is, e)) (rw (early_is, e))
 
   module _ (few : length lines < most) (some : id_of line ≡ 0 → ⊥) (new : taken (id_of line) lines ≡ false) where
-    none_early : early ≡ refusal 0 0
+    none_early : early ≡ Ok tt
     unfolding early
     none_early = rw (lt-ltb (length lines) most few, ne_eqb (id_of line) 0 some, new)
 
@@ -181,7 +184,7 @@ module _ (lines : List (List ℕ)) (tables : List ℕ) (shelf : Shelf) (s : InOr
           inside = omega arith;
         }
 
-    one_behind : InOrder (lines ++ (line ∷ [])) after (placed shelf (id_of line) (Length (length text))).shelf
+    one_behind : InOrder (lines ++ (line ∷ [])) after (record { held = with_entry shelf.held entry; used = shelf.used + length text })
     one_behind =
         let size = table_size (list_in line) cs e in
         let many = as_many shelf.used tables s.filed in
@@ -197,12 +200,11 @@ module _ (lines : List (List ℕ)) (tables : List ℕ) (shelf : Shelf) (s : InOr
           room = omega (arith, s.room, put_long tables text shelf.used wide);
         }
 
-  pub in_order_behind : (entered tables shelf line).refusal.number ≡ 0 →
-      InOrder (lines ++ (line ∷ [])) (tables_after tables shelf line) (entered tables shelf line).shelf
-  in_order_behind zero_is =
+  pub in_order_behind : (more : Shelf) → entered tables shelf line ≡ Ok more → InOrder (lines ++ (line ∷ [])) (tables_after tables shelf line) more
+  in_order_behind more is =
       elim outcome [
-        | turned_away x p is e f ↦ absurd (p.some (sym (ap (λ r. r.refusal.number) e) ∙ zero_is))
-        | stored cs l few some new is e f ↦ rw (e, f) (one_behind cs l few some new)
+        | turned_away x p same e f ↦ absurd (no_refusal (sym is ∙ e))
+        | stored cs l few some new same e f ↦ rw (f, one_shelf (sym is ∙ e)) (one_behind cs l few some new)
       ]
 
 none_apart : Apart []
@@ -212,4 +214,4 @@ pub in_order : {lines : List (List ℕ)} {tables : List ℕ} {shelf : Shelf} →
 unfolding empty_shelf
 in_order (nothing tables room) =
     record { es = []; held = refl; filed = none; apart = none_apart; few = omega arith; short = omega arith; room = room }
-in_order (one_more lines tables shelf line before e) = in_order_behind lines tables shelf (in_order before) line e
+in_order (one_more lines tables shelf line more before e) = in_order_behind lines tables shelf (in_order before) line more e

@@ -1,9 +1,7 @@
 -- A line of a register: an identifier, one blank, a list of clauses.
-use Rattle.std.specs.Prelude.{◌≡◌, cond, List, ℕ, ◌+◌, ◌≤◌, eqb, ltb, length, take, drop}
+use Rattle.std.specs.Prelude.{◌≡◌, cond, List, ℕ, ◌+◌, ◌≤◌, eqb, ltb, length, take, drop, None, Ok, Some, Err}
 use Rattle.chars.specs.Scan.{index_of}
-use Rattle.decimal.specs.declared.parse.Leading.{Leading}
-use Rattle.decimal.specs.declared.parse.Leading.TheVariants.{Absent, Read, TooBig}
-use Rattle.decimal.specs.Parse.{leading_of}
+use Rattle.decimal.specs.Parse.{Leading, leading_of}
 
 -- the blank between the two
 abbrev pub space : ℕ
@@ -22,9 +20,9 @@ abbrev pub id_where : ℕ → ℕ → ℕ → ℕ
 id_where number digits size = cond (eqb digits size) (cond (ltb number 65536) number 0) 0
 
 abbrev pub id_by : ℕ → Leading → ℕ
-id_by size Absent = 0
-id_by size (Read number digits) = id_where number digits size
-id_by size TooBig = 0
+id_by size (Ok None) = 0
+id_by size (Ok (Some (number, digits))) = id_where number digits size
+id_by size (Err e) = 0
 
 -- the identifier that a text says: digits and nothing else. 0 is none
 unfoldable pub id_said : List ℕ → ℕ

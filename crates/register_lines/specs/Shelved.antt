@@ -1,5 +1,6 @@
 -- A shelf that came of lines, entered one after the other and none of them refused; and what such lines say by themselves.
-use Rattle.std.specs.Prelude.{◌≡◌, Bool, true, false, cond, List, [], ◌∷◌, ◌++◌, ℕ, ◌*◌, ◌≤◌, eqb, ltb, length}
+use Rattle.std.specs.Prelude.{◌≡◌, Bool, cond, ◌==◌, List, [], ◌∷◌, ◌++◌, ℕ, ◌*◌, ◌≤◌, eqb, ltb, length, Result, Ok, Err}
+use Rattle.std.specs.List.{list_any}
 use Rattle.answers.specs.declared.Refusal.{Refusal}
 use Rattle.answers.specs.Refusal.{refusal}
 use Rattle.answers.specs.YesNo.{says_yes}
@@ -16,14 +17,17 @@ room_for_all = most * 14660
 
 pub data Shelved : List (List ℕ) → List ℕ → Shelf → Type 0 where
   nothing : (tables : List ℕ) → room_for_all ≤ length tables → Shelved [] tables empty_shelf
-  one_more : (lines : List (List ℕ)) (tables : List ℕ) (shelf : Shelf) (line : List ℕ) → Shelved lines tables shelf →
-      (entered tables shelf line).refusal.number ≡ 0 →
-      Shelved (lines ++ (line ∷ [])) (tables_after tables shelf line) (entered tables shelf line).shelf
+  one_more : (lines : List (List ℕ)) (tables : List ℕ) (shelf : Shelf) (line : List ℕ) (more : Shelf) → Shelved lines tables shelf →
+      entered tables shelf line ≡ Ok more → Shelved (lines ++ (line ∷ [])) (tables_after tables shelf line) more
 
 -- whether one of the lines has an identifier
 unfoldable pub taken : ℕ → List (List ℕ) → Bool
-taken id [] = false
-taken id (line ∷ lines) = cond (eqb (id_of line) id) true (taken id lines)
+taken id lines = list_any (λ line. id_of line == id) lines
+
+-- an answer's refusal; number 0 where it has none
+abbrev pub refusal_in : Result Shelf Refusal → Refusal
+refusal_in (Ok shelf) = refusal 0 0
+refusal_in (Err x) = x
 
 abbrev pub list_refusal : Listing → Refusal
 list_refusal (refused number place) = refusal number place

@@ -1,12 +1,12 @@
 // Entering lines one after the other.
-ghost use Rattle.std.specs.Prelude.{◌≡◌, ◌^◌, ◌<◌};
+ghost use Rattle.std.specs.Prelude.{◌≡◌};
 ghost use Rattle.register_entries.specs.Held.{entries_in};
-ghost use Rattle.register_lines.specs.Enter.{ListPut, end_behind, empty_shelf, line_refusal, placed, Entering};
+ghost use Rattle.register_lines.specs.Enter.{ListPut, empty_shelf, line_refusal, Entering};
 
 use crate::line::{id_of, list_of};
-use answers::{Measured, Refusal};
+use answers::Refusal;
 use register_entries::entry::Entry;
-use register_entries::held::{Held, none_held, with_entry};
+use register_entries::held::Held;
 use register_entries::ids::has_id;
 use table_compile::compile;
 
@@ -17,54 +17,8 @@ pub struct Shelf {
     pub used: usize,
 }
 
-// Number 0 is no refusal: then the shelf has one entry more. Else it is as it was.
-#[derive(Clone, Copy)]
-pub struct Entered {
-    pub refusal: Refusal,
-    pub shelf: Shelf,
-}
-
-pub fn empty_shelf() -> Shelf
-    ensures { result ≡ empty_shelf }
-{
-    Shelf {
-        held: none_held(),
-        used: 0,
-    }
-}
-
-// Why a line with that identifier can't be entered, whatever its list; number 0 where it can.
-fn line_refusal(held: Held, id: u16) -> Refusal
-    ensures { result ≡ line_refusal (entries_in held) id }
-{
-    let list = held.list;
-    let count = held.count;
-    if 63 < count {
-        return Refusal {
-            number: 30,
-            place: 64,
-        };
-    }
-    if id == 0 {
-        return Refusal {
-            number: 31,
-            place: 0,
-        };
-    }
-    if has_id(list, count, id) {
-        return Refusal {
-            number: 32,
-            place: 0,
-        };
-    }
-    Refusal {
-        number: 0,
-        place: 0,
-    }
-}
-
 // Writes the table of a list from a place of the buffer on. After the buffer's end there is no room for any.
-fn put_list(tables: &mut [u8], used: usize, list: &[u8]) -> Measured
+fn put_list(tables: &mut [u8], used: usize, list: &[u8]) -> Result<usize, Refusal>
     ensures { ListPut tables.old used list.now tables.new result }
 {
     if tables.len() < used {
@@ -74,45 +28,58 @@ fn put_list(tables: &mut [u8], used: usize, list: &[u8]) -> Measured
     compile(list, &mut tables[used..])
 }
 
-// The shelf after a line whose list was put at its end, or refused.
-fn place(shelf: Shelf, id: u16, written: Measured) -> Entered
-    requires { end_behind shelf.used written < 2 ^ 64 }
-    ensures { result ≡ placed shelf id written }
+// Whether a line with that identifier can be entered, whatever its list.
+fn admit(entries: &[Entry], id: u16) -> Result<(), Refusal>
+    ensures { result ≡ line_refusal entries.now id }
 {
-    let held = shelf.held;
-    let used = shelf.used;
-    match written {
-        Measured::Length(n) => Entered {
-            refusal: Refusal {
-                number: 0,
-                place: 0,
-            },
-            shelf: Shelf {
-                held: with_entry(
-                    held,
-                    Entry {
-                        id,
-                        start: used,
-                        length: n,
-                    },
-                ),
-                used: used + n,
-            },
-        },
-        Measured::Refused(refusal) => Entered { refusal, shelf },
+    if entries.len() > 63 {
+        return Err(Refusal {
+            number: 30,
+            place: 64,
+        });
     }
+    if id == 0 {
+        return Err(Refusal {
+            number: 31,
+            place: 0,
+        });
+    }
+    if has_id(entries, id) {
+        return Err(Refusal {
+            number: 32,
+            place: 0,
+        });
+    }
+    Ok(())
 }
 
-// One more line. A line that is refused changes no byte of the buffer, and the shelf is as it was.
-pub fn enter(tables: &mut [u8], shelf: Shelf, line: &[u8]) -> Entered
-    ensures { Entering tables.old shelf line.now tables.new result }
-{
-    let id = id_of(line);
-    let held = shelf.held;
-    let refusal = line_refusal(held, id);
-    if refusal.number != 0 {
-        return Entered { refusal, shelf };
+impl Shelf {
+    #[tactic(auto, unfolding(crate::specs::Enter::empty_shelf))]
+    pub fn empty() -> Shelf
+        ensures { result ≡ empty_shelf }
+    {
+        Shelf {
+            held: Held::none(),
+            used: 0,
+        }
     }
-    let written = put_list(tables, shelf.used, list_of(line));
-    place(shelf, id, written)
+
+    // The shelf with one more line. A line that is refused changes no byte of the buffer, and this shelf stands as it was.
+    pub fn enter(&self, tables: &mut [u8], line: &[u8]) -> Result<Shelf, Refusal>
+        ensures { Entering tables.old self.now line.now tables.new result }
+    {
+        let id = id_of(line);
+        admit(self.held.entries(), id)?;
+        let length = put_list(tables, self.used, list_of(line))?;
+        let mut held = self.held;
+        held.push(Entry {
+            id,
+            start: self.used,
+            length,
+        });
+        Ok(Shelf {
+            held,
+            used: self.used + length,
+        })
+    }
 }

@@ -1,5 +1,9 @@
 -- Worked points, by computation from a buffer with three tables. They anchor the definitions against changes that would keep every law.
 -- Assumes nothing.
+use Rattle.answers.specs.declared.RefusedInput.TheVariants.{First, Second}
+use Rattle.register_rules.specs.declared.lowest.Lowest.{Lowest}
+use Rattle.answers.specs.declared.RefusedInput.{RefusedInput}
+use Rattle.std.specs.Prelude.{Result, Ok, Err}
 use mathlib.Core.Path.{◌≡◌, refl}
 use mathlib.Core.List.{List, [], ◌∷◌, ◌++◌, map}
 use Prim.Native.Nat.{ℕ}
@@ -17,15 +21,13 @@ use Rattle.table_reading.specs.Table.{ranges_from, table_of}
 use Rattle.table_reading.specs.Lookup.{looked}
 use Rattle.register_entries.specs.declared.entry.Entry.{Entry}
 use Rattle.register_rules.specs.declared.lowest.Lowest.TheVariants.{Nothing, One, Two}
-use Rattle.register_rules.specs.declared.fit.Fit.{Fit}
-use Rattle.register_rules.specs.declared.fit.Fit.TheVariants.{By, Register, Version}
 use Rattle.register_rules.specs.Lowest.{lowest_from}
 use Rattle.register_entries.specs.Held.{has}
 use Rattle.register_rules.specs.Guilt.{first_from}
 use Rattle.register_rules.specs.Fit.{fitting, fit_of}
 
 -- where this unfolds, all that the register computes with does
-everything : List Entry → List ℕ → List ℕ → Fit
+everything : List Entry → List ℕ → List ℕ → Result Lowest RefusedInput
 unfolding computed fit_of fitting lowest_from has first_from looked table_of ranges_from record_at kind_of normal_value compare_public compare_release
     compare_key value_of listed
 everything es buffer text = fit_of es buffer text
@@ -60,9 +62,9 @@ cut id = entry id 0 13
 record Point : Type 0 where
   entries : List Entry
   text : String
-  fit : Fit
+  fit : Result Lowest RefusedInput
 
-abbrev point : List Entry → String → Fit → Point
+abbrev point : List Entry → String → Result Lowest RefusedInput → Point
 point es text fit = record { entries = es; text = text; fit = fit }
 
 abbrev Holds : List Point → Type 0
@@ -71,18 +73,18 @@ Holds points = map (λ p. fit_of p.entries buffer (ascii p.text)) points ≡ map
 -- no entry, one, two, and two of more, wherever the lowest stand
 abbrev accepted : List Point
 accepted =
-    point [] "4.2" (By Nothing)
-    ∷ point (empty 1 ∷ new 2 ∷ empty 3 ∷ []) "4.1" (By Nothing)
-    ∷ point (empty 1 ∷ new 2 ∷ empty 3 ∷ []) "4.2" (By (One 2))
-    ∷ point (new 1 ∷ empty 2 ∷ every 3 ∷ []) "4.1" (By (One 3))
-    ∷ point (new 1 ∷ empty 2 ∷ every 3 ∷ []) "4.2" (By (Two 1 3))
-    ∷ point (every 9 ∷ empty 1 ∷ every 4 ∷ []) "4.2" (By (Two 4 9))
-    ∷ point (every 3 ∷ every 7 ∷ every 9 ∷ []) "1" (By (Two 3 7))
-    ∷ point (every 3 ∷ every 9 ∷ every 7 ∷ []) "1" (By (Two 3 7))
-    ∷ point (every 7 ∷ every 3 ∷ every 9 ∷ []) "1" (By (Two 3 7))
-    ∷ point (every 7 ∷ every 9 ∷ every 3 ∷ []) "1" (By (Two 3 7))
-    ∷ point (every 9 ∷ every 3 ∷ every 7 ∷ []) "1" (By (Two 3 7))
-    ∷ point (every 9 ∷ every 7 ∷ every 3 ∷ []) "1" (By (Two 3 7))
+    point [] "4.2" (Ok Nothing)
+    ∷ point (empty 1 ∷ new 2 ∷ empty 3 ∷ []) "4.1" (Ok Nothing)
+    ∷ point (empty 1 ∷ new 2 ∷ empty 3 ∷ []) "4.2" (Ok (One 2))
+    ∷ point (new 1 ∷ empty 2 ∷ every 3 ∷ []) "4.1" (Ok (One 3))
+    ∷ point (new 1 ∷ empty 2 ∷ every 3 ∷ []) "4.2" (Ok (Two 1 3))
+    ∷ point (every 9 ∷ empty 1 ∷ every 4 ∷ []) "4.2" (Ok (Two 4 9))
+    ∷ point (every 3 ∷ every 7 ∷ every 9 ∷ []) "1" (Ok (Two 3 7))
+    ∷ point (every 3 ∷ every 9 ∷ every 7 ∷ []) "1" (Ok (Two 3 7))
+    ∷ point (every 7 ∷ every 3 ∷ every 9 ∷ []) "1" (Ok (Two 3 7))
+    ∷ point (every 7 ∷ every 9 ∷ every 3 ∷ []) "1" (Ok (Two 3 7))
+    ∷ point (every 9 ∷ every 3 ∷ every 7 ∷ []) "1" (Ok (Two 3 7))
+    ∷ point (every 9 ∷ every 7 ∷ every 3 ∷ []) "1" (Ok (Two 3 7))
     ∷ []
 
 pub accepted_hold : Holds accepted
@@ -92,10 +94,10 @@ accepted_hold = refl
 -- 31 goes before 32, 32 before 33 and 33 before the table's own, though the earlier entries break the later rules
 abbrev by_rule : List Point
 by_rule =
-    point (cut 1 ∷ beyond 2 ∷ every 1 ∷ every 0 ∷ []) "x" (Register (refusal 31 3))
-    ∷ point (cut 1 ∷ beyond 2 ∷ every 1 ∷ every 4 ∷ []) "x" (Register (refusal 32 2))
-    ∷ point (cut 1 ∷ beyond 2 ∷ every 3 ∷ every 4 ∷ []) "x" (Register (refusal 33 1))
-    ∷ point (cut 1 ∷ new 2 ∷ every 3 ∷ every 4 ∷ []) "x" (Register (refusal 18 0))
+    point (cut 1 ∷ beyond 2 ∷ every 1 ∷ every 0 ∷ []) "x" (Err (First (refusal 31 3)))
+    ∷ point (cut 1 ∷ beyond 2 ∷ every 1 ∷ every 4 ∷ []) "x" (Err (First (refusal 32 2)))
+    ∷ point (cut 1 ∷ beyond 2 ∷ every 3 ∷ every 4 ∷ []) "x" (Err (First (refusal 33 1)))
+    ∷ point (cut 1 ∷ new 2 ∷ every 3 ∷ every 4 ∷ []) "x" (Err (First (refusal 18 0)))
     ∷ []
 
 pub by_rule_hold : Holds by_rule
@@ -105,10 +107,10 @@ by_rule_hold = refl
 -- the lowest index, of those that break one rule
 abbrev by_index : List Point
 by_index =
-    point (every 1 ∷ every 0 ∷ every 0 ∷ []) "1" (Register (refusal 31 1))
-    ∷ point (every 1 ∷ every 2 ∷ every 1 ∷ every 2 ∷ []) "1" (Register (refusal 32 2))
-    ∷ point (every 1 ∷ beyond 2 ∷ beyond 3 ∷ []) "1" (Register (refusal 33 1))
-    ∷ point (every 1 ∷ cut 2 ∷ cut 3 ∷ []) "1" (Register (refusal 18 1))
+    point (every 1 ∷ every 0 ∷ every 0 ∷ []) "1" (Err (First (refusal 31 1)))
+    ∷ point (every 1 ∷ every 2 ∷ every 1 ∷ every 2 ∷ []) "1" (Err (First (refusal 32 2)))
+    ∷ point (every 1 ∷ beyond 2 ∷ beyond 3 ∷ []) "1" (Err (First (refusal 33 1)))
+    ∷ point (every 1 ∷ cut 2 ∷ cut 3 ∷ []) "1" (Err (First (refusal 18 1)))
     ∷ []
 
 pub by_index_hold : Holds by_index
@@ -118,10 +120,10 @@ by_index_hold = refl
 -- where a table ends: with the buffer, a byte after it, and an empty one at the buffer's end and after it
 abbrev by_end : List Point
 by_end =
-    point (new 1 ∷ []) "4.2" (By (One 1))
-    ∷ point (beyond 1 ∷ []) "4.2" (Register (refusal 33 0))
-    ∷ point (entry 1 37 0 ∷ []) "4.2" (Register (refusal 18 0))
-    ∷ point (entry 1 38 0 ∷ []) "4.2" (Register (refusal 33 0))
+    point (new 1 ∷ []) "4.2" (Ok (One 1))
+    ∷ point (beyond 1 ∷ []) "4.2" (Err (First (refusal 33 0)))
+    ∷ point (entry 1 37 0 ∷ []) "4.2" (Err (First (refusal 18 0)))
+    ∷ point (entry 1 38 0 ∷ []) "4.2" (Err (First (refusal 33 0)))
     ∷ []
 
 pub by_end_hold : Holds by_end
@@ -131,10 +133,10 @@ by_end_hold = refl
 -- 64 entries are judged by the other rules, 65 are too many
 abbrev by_count : List Point
 by_count =
-    point (replicate 64 (every 0)) "1" (Register (refusal 31 0))
-    ∷ point (replicate 64 (every 1)) "1" (Register (refusal 32 1))
-    ∷ point (replicate 65 (every 0)) "1" (Register (refusal 30 64))
-    ∷ point (replicate 66 (every 1)) "x" (Register (refusal 30 64))
+    point (replicate 64 (every 0)) "1" (Err (First (refusal 31 0)))
+    ∷ point (replicate 64 (every 1)) "1" (Err (First (refusal 32 1)))
+    ∷ point (replicate 65 (every 0)) "1" (Err (First (refusal 30 64)))
+    ∷ point (replicate 66 (every 1)) "x" (Err (First (refusal 30 64)))
     ∷ []
 
 pub by_count_hold : Holds by_count
@@ -144,9 +146,9 @@ by_count_hold = refl
 -- the version's refusal comes last, and of no register that is refused; no entry need be there
 abbrev by_version : List Point
 by_version =
-    point (every 1 ∷ empty 2 ∷ []) "x" (Version (refusal 1 0))
-    ∷ point [] "x" (Version (refusal 1 0))
-    ∷ point (every 1 ∷ cut 2 ∷ []) "x" (Register (refusal 18 1))
+    point (every 1 ∷ empty 2 ∷ []) "x" (Err (Second (refusal 1 0)))
+    ∷ point [] "x" (Err (Second (refusal 1 0)))
+    ∷ point (every 1 ∷ cut 2 ∷ []) "x" (Err (First (refusal 18 1)))
     ∷ []
 
 pub by_version_hold : Holds by_version

@@ -1,5 +1,8 @@
 -- Each answer of the register is right in its case, and every answer has its case: rule after rule, each at its first broken index.
 -- Assumes nothing.
+use Rattle.answers.specs.declared.RefusedInput.TheVariants.{First, Second}
+use Rattle.answers.specs.declared.RefusedInput.{RefusedInput}
+use Rattle.std.specs.Prelude.{Result, Ok, Err}
 use mathlib.Core.Path.{◌≡◌, refl, ◌∙◌, ap}
 use mathlib.Core.List.{List}
 use Prim.Native.Nat.{ℕ, ◌≤◌, ◌<◌}
@@ -14,12 +17,9 @@ use Rattle.version_reading.specs.declared.text.Verdict.{Verdict}
 use Rattle.version_reading.specs.declared.text.Verdict.TheVariants.{Accepted, Refused}
 use Rattle.version_reading.specs.Reading.{version_of}
 use Rattle.register_entries.specs.declared.entry.Entry.{Entry}
-use Rattle.register_rules.specs.declared.rule.Rule.TheVariants.{Zero, Taken, Outside}
 use Rattle.register_rules.specs.declared.lowest.Lowest.{Lowest}
 use Rattle.register_rules.specs.declared.lowest.Lowest.TheVariants.{Nothing, One, Two}
-use Rattle.register_rules.specs.declared.fit.Fit.{Fit}
-use Rattle.register_rules.specs.declared.fit.Fit.TheVariants.{By, Register, Version}
-use Rattle.register_rules.specs.Guilt.{guilt_by, table_guilt, first_from}
+use Rattle.register_rules.specs.Guilt.{Zero, Taken, Outside, guilt_by, table_guilt, first_from}
 use Rattle.register_rules.specs.Lowest.{lowest_from}
 use Rattle.register_rules.specs.Fit.{fitting, unless, answered, fit_of}
 use Rattle.register_rules.specs.Cases.{id_at, end_at, table_at, NoZero, Differ, Within, WellFormed, Sound, Fault, Accepts, Due}
@@ -44,27 +44,27 @@ use Rattle.register_rules.proofs.Breaking.{
 use Rattle.register_rules.proofs.TwoLowest.{Right, one_right, lowest_right, right_none, one_is_right, right_one, two_are_right, right_two}
 
 -- a rule over n entries, with what is said where all keep it
-module _ (P : ℕ → Type 0) (g : ℕ → ℕ) (n : ℕ) (ruled : (i : ℕ) → i < n → Ruled (P i) (g i)) (otherwise : Fit) where
-  by_rule_as : (C : Fit → Type 0) (x : Refusal) → FirstIs P g n x → (((j : ℕ) → j < n → P j → ⊥) → C otherwise) →
-      ((i : ℕ) → i < n → P i → ((j : ℕ) → j < i → P j → ⊥) → C (Register (refusal (g i) i))) → C (unless x otherwise)
+module _ (P : ℕ → Type 0) (g : ℕ → ℕ) (n : ℕ) (ruled : (i : ℕ) → i < n → Ruled (P i) (g i)) (otherwise : Result Lowest RefusedInput) where
+  by_rule_as : (C : Result Lowest RefusedInput → Type 0) (x : Refusal) → FirstIs P g n x → (((j : ℕ) → j < n → P j → ⊥) → C otherwise) →
+      ((i : ℕ) → i < n → P i → ((j : ℕ) → j < i → P j → ⊥) → C (Err (First (refusal (g i) i)))) → C (unless x otherwise)
   by_rule_as C x (FirstIs.none all) f h = f all
   by_rule_as C x (FirstIs.first i inside p some before) f h = rw (ne_eqb (g i) 0 some) (h i inside p before)
 
   -- to show something of the answer, show it where all keep the rule, and where entry i is the first that breaks it
-  by_rule : (C : Fit → Type 0) → (((j : ℕ) → j < n → P j → ⊥) → C otherwise) →
-      ((i : ℕ) → i < n → P i → ((j : ℕ) → j < i → P j → ⊥) → C (Register (refusal (g i) i))) → C (unless (first_from g n 0) otherwise)
+  by_rule : (C : Result Lowest RefusedInput → Type 0) → (((j : ℕ) → j < n → P j → ⊥) → C otherwise) →
+      ((i : ℕ) → i < n → P i → ((j : ℕ) → j < i → P j → ⊥) → C (Err (First (refusal (g i) i)))) → C (unless (first_from g n 0) otherwise)
   by_rule C f h = by_rule_as C (first_from g n 0) (first_is P g n ruled) f h
 
   passed : ((j : ℕ) → j < n → P j → ⊥) → unless (first_from g n 0) otherwise ≡ otherwise
   passed all = by_rule (λ r. r ≡ otherwise) (λ h. refl) (λ i inside p before. absurd (all i inside p))
 
-  stopped : (i : ℕ) → i < n → P i → ((j : ℕ) → j < i → P j → ⊥) → unless (first_from g n 0) otherwise ≡ Register (refusal (g i) i)
+  stopped : (i : ℕ) → i < n → P i → ((j : ℕ) → j < i → P j → ⊥) → unless (first_from g n 0) otherwise ≡ Err (First (refusal (g i) i))
   stopped i inside p before =
-      by_rule (λ r. r ≡ Register (refusal (g i) i)) (λ h. absurd (h i inside p)) (λ k there q none.
+      by_rule (λ r. r ≡ Err (First (refusal (g i) i))) (λ h. absurd (h i inside p)) (λ k there q none.
       let low : k < i → ⊥ = λ l. before k l q in
       let high : i < k → ⊥ = λ l. none i l p in
       let same : k ≡ i = omega arith in
-      ap (λ (m : ℕ). Register (refusal (g m) m)) same)
+      ap (λ (m : ℕ). Err (First (refusal (g m) m))) same)
 
 -- the rules' own words
 unrepeated : (es : List Entry) (n : ℕ) → ((i : ℕ) → i < n → Repeats es i → ⊥) → Differ es n
@@ -91,16 +91,16 @@ well_formed_all es buffer n f i high =
 
 module _ (es : List Entry) (buffer text : List ℕ) where
   -- what is said after each rule
-  abbrev last : Fit
+  abbrev last : Result Lowest RefusedInput
   last = answered (version_of text).verdict (lowest_from Nothing (fitting buffer text es))
 
-  abbrev behind_outside : Fit
+  abbrev behind_outside : Result Lowest RefusedInput
   behind_outside = unless (first_from (table_guilt buffer es) (length es) 0) last
 
-  abbrev behind_taken : Fit
+  abbrev behind_taken : Result Lowest RefusedInput
   behind_taken = unless (first_from (guilt_by Outside buffer es) (length es) 0) behind_outside
 
-  abbrev behind_zero : Fit
+  abbrev behind_zero : Result Lowest RefusedInput
   behind_zero = unless (first_from (guilt_by Taken buffer es) (length es) 0) behind_taken
 
   few_fit : length es ≤ 64 → fit_of es buffer text ≡ unless (first_from (guilt_by Zero buffer es) (length es) 0) behind_zero
@@ -135,44 +135,44 @@ module _ (es : List Entry) (buffer text : List ℕ) where
   sound_fit s = tables_kept s.few s.no_zero s.differ s.within s.well_formed
 
   -- a register that has a row is refused with its number and place
-  pub refused_in_its_case : (n p : ℕ) → Fault es buffer n p → fit_of es buffer text ≡ Register (refusal n p)
+  pub refused_in_its_case : (n p : ℕ) → Fault es buffer n p → fit_of es buffer text ≡ Err (First (refusal n p))
   unfolding fit_of
   refused_in_its_case n p (Fault.too_many many) = rw (lt-ltb 64 (length es) many)
   refused_in_its_case n p (Fault.zero i few inside e before) =
       few_fit few ∙
       stopped (λ i. id_at es i ≡ 0) (guilt_by Zero buffer es) (length es) (λ i h. zero_ruled buffer es i) behind_zero i inside e before ∙
-      ap (λ (k : ℕ). Register (refusal k i)) (zero_number buffer es i e)
+      ap (λ (k : ℕ). Err (First (refusal k i))) (zero_number buffer es i e)
   refused_in_its_case n p (Fault.taken i j few no_zero inside low e before) =
       zero_kept few no_zero ∙
       stopped (Repeats es) (guilt_by Taken buffer es) (length es) (taken_ruled buffer es) behind_taken i inside (j, low, e) (not_repeated es i before) ∙
-      ap (λ (k : ℕ). Register (refusal k i)) (taken_number buffer es i inside (j, low, e))
+      ap (λ (k : ℕ). Err (First (refusal k i))) (taken_number buffer es i inside (j, low, e))
   refused_in_its_case n p (Fault.outside i few no_zero differ inside h before) =
       taken_kept few no_zero differ ∙
       stopped (λ i. length buffer < end_at es i) (guilt_by Outside buffer es) (length es) (λ i h. outside_ruled buffer es i) behind_outside i inside h
       (not_outside es buffer i before) ∙
-      ap (λ (k : ℕ). Register (refusal k i)) (outside_number buffer es i h)
+      ap (λ (k : ℕ). Err (First (refusal k i))) (outside_number buffer es i h)
   refused_in_its_case n p (Fault.bad_table i number place few no_zero differ within inside e before) =
       outside_kept few no_zero differ within ∙
       stopped (λ i. Refusing (table_at es buffer i)) (table_guilt buffer es) (length es) (λ i h. table_ruled buffer es i) last i inside (number, place, e)
       (not_refusing es buffer i before) ∙
-      ap (λ (k : ℕ). Register (refusal k i)) (table_number buffer es i number place e)
+      ap (λ (k : ℕ). Err (First (refusal k i))) (table_number buffer es i number place e)
 
   -- each answer is right in its case
-  pub answer_in_its_case : (r : Fit) → Due es buffer text r → fit_of es buffer text ≡ r
-  answer_in_its_case (Register x) (Due.register y f) = refused_in_its_case x.number x.place f
-  answer_in_its_case (Version x) (Due.version y s e) = sound_fit s ∙ rw e
-  answer_in_its_case (By Nothing) (Due.none s e never) =
+  pub answer_in_its_case : (r : Result Lowest RefusedInput) → Due es buffer text r → fit_of es buffer text ≡ r
+  answer_in_its_case (Err (First x)) (Due.register y f) = refused_in_its_case x.number x.place f
+  answer_in_its_case (Err (Second x)) (Due.version y s e) = sound_fit s ∙ rw e
+  answer_in_its_case (Ok Nothing) (Due.none s e never) =
       let same = one_right (id_at es) (Accepts es buffer text) _ Nothing (lowest_right es buffer text s.differ) (Right.none never) in
-      sound_fit s ∙ rw e (ap By same)
-  answer_in_its_case (By (One id)) (Due.one id' s e o) =
+      sound_fit s ∙ rw e (ap Ok same)
+  answer_in_its_case (Ok (One id)) (Due.one id' s e o) =
       let same = one_right (id_at es) (Accepts es buffer text) _ (One id) (lowest_right es buffer text s.differ) (one_is_right es buffer text id o) in
-      sound_fit s ∙ rw e (ap By same)
-  answer_in_its_case (By (Two a b)) (Due.two a' b' s e t) =
+      sound_fit s ∙ rw e (ap Ok same)
+  answer_in_its_case (Ok (Two a b)) (Due.two a' b' s e t) =
       let same = one_right (id_at es) (Accepts es buffer text) _ (Two a b) (lowest_right es buffer text s.differ) (two_are_right es buffer text a b t) in
-      sound_fit s ∙ rw e (ap By same)
+      sound_fit s ∙ rw e (ap Ok same)
 
   -- what is said of a sound register
-  lowest_due : Sound es buffer → (version_of text).verdict ≡ Accepted → (l : Lowest) → Right (id_at es) (Accepts es buffer text) l → Due es buffer text (By l)
+  lowest_due : Sound es buffer → (version_of text).verdict ≡ Accepted → (l : Lowest) → Right (id_at es) (Accepts es buffer text) l → Due es buffer text (Ok l)
   lowest_due s e Nothing r = Due.none s e (right_none es buffer text r)
   lowest_due s e (One id) r = Due.one id s e (right_one es buffer text id r)
   lowest_due s e (Two a b) r = Due.two a b s e (right_two es buffer text a b r)

@@ -17,8 +17,7 @@ use Rattle.table_reading.specs.Table.{Tabled, refused, ranges, table_of}
 use Rattle.table_reading.proofs.Tables.{only_18}
 use Rattle.register_entries.specs.declared.entry.Entry.{Entry}
 use Rattle.register_entries.specs.Held.{blank, has}
-use Rattle.register_rules.specs.declared.rule.Rule.TheVariants.{Zero, Taken, Outside}
-use Rattle.register_rules.specs.Guilt.{guilt_by, table_guilt, first_from}
+use Rattle.register_rules.specs.Guilt.{Zero, Taken, Outside, guilt_by, table_guilt, first_from}
 use Rattle.register_rules.specs.Cases.{id_at, end_at, table_at}
 
 -- a rule at an entry: broken, with a number, or kept, with 0

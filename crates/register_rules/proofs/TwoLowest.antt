@@ -1,5 +1,8 @@
 -- The two lowest identifiers of the entries that accept a version, entry by entry from the first: right for those looked at so far, and then for
 -- all. Assumes nothing.
+use Rattle.answers.specs.declared.RefusedInput.TheVariants.{First, Second}
+use Rattle.answers.specs.declared.RefusedInput.{RefusedInput}
+use Rattle.std.specs.Prelude.{Result, Ok, Err}
 use mathlib.Core.Path.{◌≡◌, refl, sym, ◌∙◌, ap}
 use mathlib.Core.Bool.{Bool, true, false, false≢true, cond}
 use mathlib.Core.List.{List, [], ◌∷◌}
@@ -13,8 +16,6 @@ use borrow.Author.Tests.{ltb-true, ltb-false}
 use Rattle.version.proofs.Answers.{FlagCases, flag_cases}
 use Rattle.version_roundtrip.proofs.ReadPlaces.{by_cond}
 use Rattle.answers.specs.YesNo.{says_yes}
-use Rattle.answers.specs.declared.YesNo.{YesNo}
-use Rattle.answers.specs.declared.YesNo.TheVariants.{Yes, No, First as Table, Second as Version}
 use Rattle.table_reading.specs.Lookup.{looked}
 use Rattle.register_entries.specs.declared.entry.Entry.{Entry}
 use Rattle.register_entries.specs.Held.{blank}
@@ -150,16 +151,16 @@ one_right id P (Two a b) (Two c d) (Right.two a' b' i j p q e f low others) (Rig
     cc
 
 -- an entry's table holds the version, or `fitting` passes it over
-says_yes_lem : (a : YesNo) → says_yes a ≡ true → a ≡ Yes
-says_yes_lem Yes e = refl
-says_yes_lem No e = cc
-says_yes_lem (Table x) e = cc
-says_yes_lem (Version x) e = cc
+says_yes_lem : (a : Result Bool RefusedInput) → says_yes a ≡ true → a ≡ Ok true
+says_yes_lem (Ok true) e = refl
+says_yes_lem (Ok false) e = cc
+says_yes_lem (Err (First x)) e = cc
+says_yes_lem (Err (Second x)) e = cc
 
 module _ (es : List Entry) (buffer text : List ℕ) where
   -- one of the first n entries, and it accepts the version
   abbrev pub AcceptsBelow : ℕ → ℕ → Type 0
-  AcceptsBelow n k = (k < n) × (looked (table_at es buffer k) text ≡ Yes)
+  AcceptsBelow n k = (k < n) × (looked (table_at es buffer k) text ≡ Ok true)
 
   fitting_on : (n : ℕ) (b : Bool) → n < length es → fits buffer text (entry_at es n) ≡ b →
       fitting buffer text (drop n es) ≡ cond b (id_at es n ∷ fitting buffer text (drop (suc n) es)) (fitting buffer text (drop (suc n) es))
@@ -167,7 +168,7 @@ module _ (es : List Entry) (buffer text : List ℕ) where
   fitting_on n b h e = rw (drop-cons es n blank h, e)
 
   module _ (differ : Differ es (length es)) where
-    right_yes : (n : ℕ) (l : Lowest) → n < length es → looked (table_at es buffer n) text ≡ Yes → Right (id_at es) (AcceptsBelow n) l →
+    right_yes : (n : ℕ) (l : Lowest) → n < length es → looked (table_at es buffer n) text ≡ Ok true → Right (id_at es) (AcceptsBelow n) l →
         Right (id_at es) (AcceptsBelow (suc n)) (lowered l (id_at es n))
     right_yes n l h e r =
         right_more (id_at es) (AcceptsBelow n) (AcceptsBelow (suc n)) n (λ k p. (omega (arith, p.0), p.1)) (omega arith, e)
@@ -175,7 +176,7 @@ module _ (es : List Entry) (buffer text : List ℕ) where
         (λ k p f. differ k n p.0 h f)
         l r
 
-    right_no : (n : ℕ) (l : Lowest) → (looked (table_at es buffer n) text ≡ Yes → ⊥) → Right (id_at es) (AcceptsBelow n) l →
+    right_no : (n : ℕ) (l : Lowest) → (looked (table_at es buffer n) text ≡ Ok true → ⊥) → Right (id_at es) (AcceptsBelow n) l →
         Right (id_at es) (AcceptsBelow (suc n)) l
     right_no n l f r =
         right_same (id_at es) (AcceptsBelow n) (AcceptsBelow (suc n)) (λ k p. (omega (arith, p.0), p.1))

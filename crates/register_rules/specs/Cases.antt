@@ -1,18 +1,18 @@
 -- The cases of a register, entry by entry: when each refusal is due and where, when a register is sound, and which entries accept a version.
 -- A second reading of what `fit_of` says, with no search and no order of steps in it.
-use Rattle.std.specs.Prelude.{◌≡◌, List, ℕ, ◌+◌, ◌≤◌, ◌<◌, length}
+use Rattle.answers.specs.declared.RefusedInput.TheVariants.{First, Second}
+use Rattle.register_rules.specs.declared.lowest.Lowest.{Lowest}
+use Rattle.answers.specs.declared.RefusedInput.{RefusedInput}
+use Rattle.std.specs.Prelude.{◌≡◌, List, ℕ, ◌+◌, ◌≤◌, ◌<◌, length, Ok, true, Result, Err}
 use Rattle.answers.specs.declared.Refusal.{Refusal}
 use Rattle.version_reading.specs.declared.text.Verdict.TheVariants.{Accepted, Refused}
 use Rattle.version_reading.specs.Reading.{version_of}
 use Rattle.ranges.specs.Range.{Range}
 use Rattle.list_ends.specs.Cut.{Place}
-use Rattle.answers.specs.declared.YesNo.TheVariants.{Yes}
 use Rattle.table_reading.specs.Table.{refused, ranges, table_of}
 use Rattle.table_reading.specs.Lookup.{looked}
 use Rattle.register_entries.specs.declared.entry.Entry.{Entry}
 use Rattle.register_rules.specs.declared.lowest.Lowest.TheVariants.{Nothing, One, Two}
-use Rattle.register_rules.specs.declared.fit.Fit.{Fit}
-use Rattle.register_rules.specs.declared.fit.Fit.TheVariants.{By, Register, Version}
 use Rattle.register_rules.specs.Guilt.{entry_at, table_in}
 
 -- of the entry at an index: its identifier, where its table ends, and its table
@@ -67,7 +67,7 @@ pub data Fault (es : List Entry) (buffer : List ℕ) : ℕ → ℕ → Type 0 wh
 
 -- the table of entry i holds the version
 abbrev pub Accepts : List Entry → List ℕ → List ℕ → ℕ → Type 0
-Accepts es buffer text i = (i < length es) × (looked (table_at es buffer i) text ≡ Yes)
+Accepts es buffer text i = (i < length es) × (looked (table_at es buffer i) text ≡ Ok true)
 
 abbrev pub NoneAccepts : List Entry → List ℕ → List ℕ → Type 0
 NoneAccepts es buffer text = (k : ℕ) → Accepts es buffer text k → ⊥
@@ -91,9 +91,9 @@ pub record TwoAccept (es : List Entry) (buffer text : List ℕ) (a b : ℕ) : Ty
   pub others : (k : ℕ) → Accepts es buffer text k → (k ≡ i → ⊥) → (k ≡ j → ⊥) → b < id_at es k
 
 -- the whole statement: each answer with its case
-pub data Due (es : List Entry) (buffer text : List ℕ) : Fit → Type 0 where
-  register : (x : Refusal) → Fault es buffer x.number x.place → Due es buffer text (Register x)
-  version : (x : Refusal) → Sound es buffer → (version_of text).verdict ≡ Refused x → Due es buffer text (Version x)
-  none : Sound es buffer → (version_of text).verdict ≡ Accepted → NoneAccepts es buffer text → Due es buffer text (By Nothing)
-  one : (id : ℕ) → Sound es buffer → (version_of text).verdict ≡ Accepted → OneAccepts es buffer text id → Due es buffer text (By (One id))
-  two : (a b : ℕ) → Sound es buffer → (version_of text).verdict ≡ Accepted → TwoAccept es buffer text a b → Due es buffer text (By (Two a b))
+pub data Due (es : List Entry) (buffer text : List ℕ) : Result Lowest RefusedInput → Type 0 where
+  register : (x : Refusal) → Fault es buffer x.number x.place → Due es buffer text (Err (First x))
+  version : (x : Refusal) → Sound es buffer → (version_of text).verdict ≡ Refused x → Due es buffer text (Err (Second x))
+  none : Sound es buffer → (version_of text).verdict ≡ Accepted → NoneAccepts es buffer text → Due es buffer text (Ok Nothing)
+  one : (id : ℕ) → Sound es buffer → (version_of text).verdict ≡ Accepted → OneAccepts es buffer text id → Due es buffer text (Ok (One id))
+  two : (a b : ℕ) → Sound es buffer → (version_of text).verdict ≡ Accepted → TwoAccept es buffer text a b → Due es buffer text (Ok (Two a b))

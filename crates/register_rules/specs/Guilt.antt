@@ -5,8 +5,15 @@ use Rattle.answers.specs.Refusal.{refusal}
 use Rattle.table_reading.specs.Table.{Tabled, refused, ranges, table_of}
 use Rattle.register_entries.specs.declared.entry.Entry.{Entry}
 use Rattle.register_entries.specs.Held.{blank, has}
-use Rattle.register_rules.specs.declared.rule.Rule.{Rule}
-use Rattle.register_rules.specs.declared.rule.Rule.TheVariants.{Zero, Taken, Outside}
+
+-- the rules on entries that need no table; each is held against all entries before the next one is
+pub data Rule : Type 0 where
+  -- the identifier is 0
+  Zero : Rule
+  -- an earlier entry has the identifier
+  Taken : Rule
+  -- the table does not lie within the buffer
+  Outside : Rule
 
 abbrev pub entry_at : List Entry → ℕ → Entry
 entry_at es i = get_or es i blank

@@ -1,75 +1,39 @@
 // The words of a question as what they stand for: bytes in hexadecimal, and numbers.
-use chars::same::same_bytes;
-use decimal::parse::{Leading, leading_number};
-use decimal::put::put_byte;
+ghost use Rattle.std.specs.Prelude.{IfSome, ◌<◌};
 
-// Where the bytes end in the buffer that they were put into.
-#[derive(Clone, Copy)]
-pub enum Decoded {
-    End(usize),
-    Bad,
+use decimal::parse::leading_number;
+
+// A lower-case hexadecimal digit's value.
+fn nibble(b: u8) -> Option<u8>
+    ensures { IfSome result (λ n. n < 16) }
+{
+    match b {
+        b'0'..=b'9' => Some(b - b'0'),
+        b'a'..=b'f' => Some(b - b'a' + 10),
+        _ => None,
+    }
 }
 
-#[derive(Clone, Copy)]
-pub enum Natural {
-    Is(usize),
-    Bad,
+// The bytes that a word says, put at the front of the buffer, and the rest of the buffer for the next.
+pub(crate) fn decode<'t>(word: &[u8], texts: &'t mut [u8]) -> Option<(&'t [u8], &'t mut [u8])> {
+    let digits = match word {
+        b"-" => b"",
+        b"" => return None,
+        _ => word,
+    };
+    if digits.len() % 2 != 0 {
+        return None;
+    }
+    let (text, rest) = texts.split_at_mut_checked(digits.len() / 2)?;
+    for (place, pair) in text.iter_mut().zip(digits.chunks_exact(2)) {
+        *place = nibble(pair[0])? * 16 + nibble(pair[1])?;
+    }
+    Some((text, rest))
 }
 
-// A lower-case hexadecimal digit's value, and 16 for any other byte.
-fn nibble(b: u8) -> u8 {
-    if b < b'0' {
-        return 16;
-    }
-    if b <= b'9' {
-        return b - b'0';
-    }
-    if b < b'a' {
-        return 16;
-    }
-    if b'f' < b {
-        return 16;
-    }
-    b - 87
-}
-
-// Puts the bytes of a word into the buffer from a place on.
-pub(crate) fn decode(word: &[u8], texts: &mut [u8], at: usize) -> Decoded {
-    if same_bytes(word, b"-") {
-        return Decoded::End(at);
-    }
-    if word.len() == 0 {
-        return Decoded::Bad;
-    }
-    if word.len() % 2 != 0 {
-        return Decoded::Bad;
-    }
-    let mut next = at;
-    let mut i = 0;
-    while i < word.len() / 2 {
-        let high = nibble(word[i * 2]);
-        let low = nibble(word[i * 2 + 1]);
-        if 15 < high {
-            return Decoded::Bad;
-        }
-        if 15 < low {
-            return Decoded::Bad;
-        }
-        next = put_byte(texts, next, high * 16 + low);
-        i += 1;
-    }
-    Decoded::End(next)
-}
-
-pub(crate) fn read_natural(word: &[u8]) -> Natural {
+pub(crate) fn read_natural(word: &[u8]) -> Option<usize> {
     match leading_number(word) {
-        Leading::Read(n, len) => {
-            if len == word.len() {
-                return Natural::Is(n as usize);
-            }
-            Natural::Bad
-        }
-        Leading::Absent => Natural::Bad,
-        Leading::TooBig => Natural::Bad,
+        Ok(Some((n, len))) if len == word.len() => Some(n as usize),
+        _ => None,
     }
 }

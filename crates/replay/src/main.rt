@@ -4,21 +4,23 @@
 mod answer;
 mod decode;
 mod events;
-mod kinds;
 mod listed;
 mod say;
-mod words;
 
 use answer::{LONGEST_LINE, answer};
-use chars::place::part;
-use lines::input::next_line;
-use lines::window::Found;
+use answer_lines::line::Line;
+use lines::source::Lines;
 use std::io::Write;
 
-fn answer_line<W: Write>(output: &mut W, line: &[u8], out: &mut [u8]) {
-    let n = answer(output, line, out);
+fn answer_line<W: Write>(output: &mut W, question: &[u8], out: &mut [u8]) {
+    let mut line = Line::new(out);
+    if answer(output, question, &mut line).is_none() {
+        line.clear();
+        line.text(b"not a question");
+    }
+    line.byte(b'\n');
     // Nobody is left to be told of a write that fails.
-    let _ = output.write_all(part(out, 0, n));
+    let _ = output.write_all(line.so_far());
 }
 
 fn main(rt: HostRuntime) {
@@ -26,15 +28,12 @@ fn main(rt: HostRuntime) {
     let mut output = rt.stdout();
     let mut buffer = lines::input::buffer();
     let mut out = [0u8; 65536];
-    let mut window = lines::window::empty();
+    let mut questions = Lines::new(&mut input, &mut buffer, LONGEST_LINE);
     // A proved loop has to end, and nothing says that the input does: no run uses this count up.
     for _ in 0..u64::MAX {
-        let next = next_line(&mut input, &mut buffer, window, LONGEST_LINE);
-        let found = next.found;
-        let Found::Line(start, end) = found else {
+        let Some(question) = questions.next() else {
             return;
         };
-        answer_line(&mut output, part(&buffer, start, end), &mut out);
-        window = next.window;
+        answer_line(&mut output, question, &mut out);
     }
 }

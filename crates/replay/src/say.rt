@@ -1,187 +1,198 @@
-// Answers, put into a buffer: what was read, refusals, and bytes in hexadecimal.
-use answers::{Measured, Refusal};
-use chars::place::byte_at;
-use decimal::put::{put_byte, put_bytes, put_number};
-use register_rules::fit::Fit;
+// Answers, put into a line: what was read, what was found, and refusals.
+use answer_lines::line::Line;
+use answers::{Refusal, RefusedInput};
 use register_rules::lowest::Lowest;
+use std::cmp::Ordering;
 use version_normal::numbers::{put_pre, put_release};
-use version_parts::fields::{Local, MaybeNumber, Pre, Release, Version};
+use version_parts::fields::{Local, Span, Version};
 use version_reading::segment::{Segment, segment_bytes, segment_of};
 use version_reading::text::Verdict;
 
-pub(crate) fn put_refusal(out: &mut [u8], at: usize, name: &[u8], refusal: Refusal) -> usize {
-    let number = put_bytes(out, at, name);
-    let blank = put_number(out, number, refusal.number as u64);
-    let place = put_byte(out, blank, b' ');
-    put_number(out, place, refusal.place as u64)
-}
+// The longest buffer that a question may lend.
+const LARGEST_ROOM: usize = 16384;
 
-// Each word of the fields stands after its blank.
-fn put_release_word(out: &mut [u8], at: usize, release: Release) -> usize {
-    let word = put_byte(out, at, b' ');
-    put_release(out, word, release)
-}
+const DIGITS: [u8; 16] = *b"0123456789abcdef";
 
-fn put_pre_word(out: &mut [u8], at: usize, pre: Pre) -> usize {
-    let word = put_byte(out, at, b' ');
-    if let Pre::Absent = pre {
-        return put_byte(out, word, b'-');
+// Two digits for each byte, and a dash for none.
+pub(crate) fn put_hex(line: &mut Line<'_>, bytes: &[u8]) {
+    if bytes.is_empty() {
+        line.byte(b'-');
     }
-    put_pre(out, word, pre)
+    for b in bytes {
+        line.byte(DIGITS[(*b / 16) as usize]);
+        line.byte(DIGITS[(*b % 16) as usize]);
+    }
 }
 
-fn put_part_word(out: &mut [u8], at: usize, part: MaybeNumber) -> usize {
-    let word = put_byte(out, at, b' ');
-    let MaybeNumber::Is(n) = part else {
-        return put_byte(out, word, b'-');
-    };
-    put_number(out, word, n)
+fn put_refusal(line: &mut Line<'_>, name: &[u8], refusal: Refusal) {
+    line.text(name);
+    line.number(refusal.number as u64);
+    line.byte(b' ');
+    line.number(refusal.place as u64);
+}
+
+// A blank, and the number or a dash.
+fn put_part(line: &mut Line<'_>, part: Option<u64>) {
+    line.byte(b' ');
+    match part {
+        Some(n) => line.number(n),
+        None => line.byte(b'-'),
+    }
 }
 
 // A number with its value, a text with its place.
-fn put_segment(out: &mut [u8], at: usize, text: &[u8], local: Local, i: usize) -> usize {
-    if 16 <= i {
-        return at;
-    }
-    let span = local.spans[i];
-    match segment_of(segment_bytes(text, local, i)) {
+fn put_segment(line: &mut Line<'_>, bytes: &[u8], span: Span) {
+    match segment_of(bytes) {
         Segment::Number(n) => {
-            let digits = put_byte(out, at, b'n');
-            put_number(out, digits, n)
+            line.byte(b'n');
+            line.number(n);
         }
         Segment::Text => {
-            let start = put_byte(out, at, b't');
-            let colon = put_number(out, start, span.start as u64);
-            let end = put_byte(out, colon, b':');
-            put_number(out, end, span.end as u64)
+            line.byte(b't');
+            line.number(span.start as u64);
+            line.byte(b':');
+            line.number(span.end as u64);
         }
     }
 }
 
-fn put_local_word(out: &mut [u8], at: usize, text: &[u8], local: Local) -> usize {
-    let word = put_byte(out, at, b' ');
-    let len = local.len;
-    if len == 0 {
-        return put_byte(out, word, b'-');
+fn put_local(line: &mut Line<'_>, text: &[u8], local: Local) {
+    line.byte(b' ');
+    if local.len == 0 {
+        line.byte(b'-');
     }
-    let mut next = put_segment(out, word, text, local, 0);
-    let mut i = 1;
-    while i < len {
-        let comma = put_byte(out, next, b',');
-        next = put_segment(out, comma, text, local, i);
-        i += 1;
+    for (i, span) in local.spans.iter().take(local.len).enumerate() {
+        if i > 0 {
+            line.byte(b',');
+        }
+        put_segment(line, segment_bytes(text, local, i), *span);
     }
-    next
 }
 
-fn put_front(out: &mut [u8], at: usize, version: Version) -> usize {
-    let release = version.release;
-    let pre = version.pre;
-    let mut next = put_number(out, at, version.epoch);
-    next = put_release_word(out, next, release);
-    put_pre_word(out, next, pre)
-}
-
-fn put_back(out: &mut [u8], at: usize, text: &[u8], version: Version) -> usize {
-    let post = version.post;
-    let dev = version.dev;
-    let local = version.local;
-    let mut next = put_part_word(out, at, post);
-    next = put_part_word(out, next, dev);
-    put_local_word(out, next, text, local)
+fn put_fields(line: &mut Line<'_>, text: &[u8], version: Version) {
+    line.number(version.epoch);
+    line.byte(b' ');
+    line.end = put_release(line.buffer, line.end, version.release);
+    line.byte(b' ');
+    match version.pre {
+        None => line.byte(b'-'),
+        pre => line.end = put_pre(line.buffer, line.end, pre),
+    }
+    put_part(line, version.post);
+    put_part(line, version.dev);
+    put_local(line, text, version.local);
 }
 
 // What was read, after `ok` or `ok*`.
 pub(crate) fn put_reading(
-    out: &mut [u8],
+    line: &mut Line<'_>,
     text: &[u8],
     ok: &[u8],
     verdict: Verdict,
     version: Version,
-) -> usize {
-    if let Verdict::Refused(refusal) = verdict {
-        return put_refusal(out, 0, b"no ", refusal);
-    }
-    let fields = put_bytes(out, 0, ok);
-    let back = put_front(out, fields, version);
-    put_back(out, back, text, version)
-}
-
-fn hex_digit(n: u8) -> u8 {
-    let d = n % 16;
-    if d < 10 { b'0' + d } else { 87 + d }
-}
-
-pub(crate) fn put_hex(out: &mut [u8], at: usize, bytes: &[u8]) -> usize {
-    if bytes.len() == 0 {
-        return put_byte(out, at, b'-');
-    }
-    let mut next = at;
-    let mut i = 0;
-    while i < bytes.len() {
-        let b = byte_at(bytes, i);
-        let low = put_byte(out, next, hex_digit(b / 16));
-        next = put_byte(out, low, hex_digit(b));
-        i += 1;
-    }
-    next
-}
-
-// A word's sixteen digits: its eight bytes, the highest first.
-pub(crate) fn put_word(out: &mut [u8], at: usize, word: u64) -> usize {
-    let bytes = [
-        (word / 72057594037927936 % 256) as u8,
-        (word / 281474976710656 % 256) as u8,
-        (word / 1099511627776 % 256) as u8,
-        (word / 4294967296 % 256) as u8,
-        (word / 16777216 % 256) as u8,
-        (word / 65536 % 256) as u8,
-        (word / 256 % 256) as u8,
-        (word % 256) as u8,
-    ];
-    put_hex(out, at, &bytes)
-}
-
-fn put_buffer(out: &mut [u8], at: usize, buffer: &[u8]) -> usize {
-    let bytes = put_byte(out, at, b' ');
-    put_hex(out, bytes, buffer)
-}
-
-// What a printer answered, and the buffer as it left it.
-pub(crate) fn put_written(out: &mut [u8], written: Measured, buffer: &[u8]) -> usize {
-    match written {
-        Measured::Length(n) => {
-            let digits = put_bytes(out, 0, b"ok ");
-            let end = put_number(out, digits, n as u64);
-            put_buffer(out, end, buffer)
-        }
-        Measured::Refused(refusal) => {
-            let end = put_refusal(out, 0, b"no ", refusal);
-            put_buffer(out, end, buffer)
+) {
+    match verdict {
+        Verdict::Refused(refusal) => put_refusal(line, b"no ", refusal),
+        Verdict::Accepted => {
+            line.text(ok);
+            put_fields(line, text, version);
         }
     }
 }
 
-fn put_lowest(out: &mut [u8], lowest: Lowest) -> usize {
+pub(crate) fn put_read(line: &mut Line<'_>, text: &[u8]) {
+    let read = version::read(text);
+    put_reading(line, text, b"ok ", read.verdict, read.version);
+}
+
+pub(crate) fn put_pattern(line: &mut Line<'_>, text: &[u8]) {
+    let read = version::pattern(text);
+    let ok: &[u8] = if read.wildcard { b"ok* " } else { b"ok " };
+    put_reading(line, text, ok, read.verdict, read.version);
+}
+
+// A word's sixteen digits.
+pub(crate) fn put_word(line: &mut Line<'_>, text: &[u8]) {
+    match version::word(text) {
+        Ok(Some(word)) => {
+            line.text(b"word ");
+            put_hex(line, &word.0.to_be_bytes());
+        }
+        Ok(None) => line.text(b"none"),
+        Err(refusal) => put_refusal(line, b"no ", refusal),
+    }
+}
+
+fn put_length(line: &mut Line<'_>, measured: Result<usize, Refusal>) {
+    match measured {
+        Ok(n) => {
+            line.text(b"ok ");
+            line.number(n as u64);
+        }
+        Err(refusal) => put_refusal(line, b"no ", refusal),
+    }
+}
+
+pub(crate) fn put_clause_count(line: &mut Line<'_>, list: &[u8]) {
+    put_length(line, list_clauses::list::check(list));
+}
+
+// What a printer answers when it is lent n bytes, and the bytes as it left them: none where they are too many to lend.
+pub(crate) fn put_printed<P: FnOnce(&mut [u8]) -> Result<usize, Refusal>>(
+    line: &mut Line<'_>,
+    n: usize,
+    print: P,
+) -> Option<()>
+    requires { P.IsAlwaysCallable print }
+{
+    let mut buffer = [165u8; LARGEST_ROOM];
+    let room = buffer.get_mut(..n)?;
+    put_length(line, print(room));
+    line.byte(b' ');
+    put_hex(line, room);
+    Some(())
+}
+
+// The first text has that name.
+pub(crate) fn put_yes_no(line: &mut Line<'_>, name: &[u8], said: Result<bool, RefusedInput>) {
+    match said {
+        Ok(true) => line.text(b"yes"),
+        Ok(false) => line.text(b"no"),
+        Err(RefusedInput::First(refusal)) => put_refusal(line, name, refusal),
+        Err(RefusedInput::Second(refusal)) => put_refusal(line, b"version ", refusal),
+    }
+}
+
+pub(crate) fn put_compared(line: &mut Line<'_>, compared: Result<Ordering, RefusedInput>) {
+    match compared {
+        Ok(Ordering::Less) => line.text(b"less"),
+        Ok(Ordering::Equal) => line.text(b"equal"),
+        Ok(Ordering::Greater) => line.text(b"greater"),
+        Err(RefusedInput::First(refusal)) => put_refusal(line, b"first ", refusal),
+        Err(RefusedInput::Second(refusal)) => put_refusal(line, b"second ", refusal),
+    }
+}
+
+fn put_lowest(line: &mut Line<'_>, lowest: Lowest) {
     match lowest {
-        Lowest::Nothing => put_bytes(out, 0, b"none"),
+        Lowest::Nothing => line.text(b"none"),
         Lowest::One(id) => {
-            let digits = put_bytes(out, 0, b"one ");
-            put_number(out, digits, id as u64)
+            line.text(b"one ");
+            line.number(id as u64);
         }
         Lowest::Two(first, second) => {
-            let digits = put_bytes(out, 0, b"two ");
-            let blank = put_number(out, digits, first as u64);
-            let next = put_byte(out, blank, b' ');
-            put_number(out, next, second as u64)
+            line.text(b"two ");
+            line.number(first as u64);
+            line.byte(b' ');
+            line.number(second as u64);
         }
     }
 }
 
-pub(crate) fn put_fit(out: &mut [u8], fit: Fit) -> usize {
+pub(crate) fn put_fit(line: &mut Line<'_>, fit: Result<Lowest, RefusedInput>) {
     match fit {
-        Fit::By(lowest) => put_lowest(out, lowest),
-        Fit::Register(refusal) => put_refusal(out, 0, b"register ", refusal),
-        Fit::Version(refusal) => put_refusal(out, 0, b"version ", refusal),
+        Ok(lowest) => put_lowest(line, lowest),
+        Err(RefusedInput::First(refusal)) => put_refusal(line, b"register ", refusal),
+        Err(RefusedInput::Second(refusal)) => put_refusal(line, b"version ", refusal),
     }
 }

@@ -1,5 +1,6 @@
 -- Demand 3, from bytes to bytes: looking a version up in the table that was compiled from a list says what each clause by itself says.
 -- Assumes nothing.
+use Rattle.std.specs.Prelude.{Ok}
 use mathlib.Core.Path.{◌≡◌, refl, sym, ◌∙◌, ap}
 use mathlib.Core.Logic.{◌↔◌}
 use mathlib.Core.Bool.{Bool, true, false}
@@ -9,7 +10,6 @@ use native.Mathlib.Omega.{arith}
 use lib.Dec.{ltb}
 use lib.ListN.{length, take, drop}
 use lib.Seq.{take-append_seam}
-use Rattle.answers.specs.declared.Measured.TheVariants.{Length}
 use Rattle.answers.specs.YesNo.{yes_or_no}
 use Rattle.answers.specs.Printed.{answer, filled, answer_if, filled_if}
 use Rattle.version_reading.specs.declared.text.Verdict.{Verdict}
@@ -23,14 +23,13 @@ use Rattle.list_accepting.specs.Accept.{all_accept, judged_by, accepted}
 use Rattle.list_ends.specs.Shape.{ranges_of}
 use Rattle.list_ends.proofs.Tables.{ranges_ascend, ranges_hold, ranges_most}
 use Rattle.list_ends.proofs.Written.{ends_written}
-use Rattle.answers.specs.declared.YesNo.TheVariants.{Yes}
 use Rattle.table_reading.specs.Text.{table_text}
 use Rattle.table_reading.specs.Table.{ranges, table_of}
 use Rattle.table_reading.specs.Lookup.{judged, looked}
 use Rattle.table_compile.specs.Compiled.{answer_to, filled_to, Compiled}
 use Rattle.table_agreement.proofs.Reread.{reread}
 
-yes_means : (b : Bool) → yes_or_no b ≡ Yes → b ≡ true
+yes_means : (b : Bool) → yes_or_no b ≡ Ok true → b ≡ true
 yes_means true e = refl
 yes_means false e = let impossible : ◌≡◌ {A = ℕ} 0 1 = cc in absurd (omega arith)
 
@@ -50,7 +49,7 @@ module _ (s : List ℕ) (cs : List Clause) (e : list_of s ≡ clauses cs) where
 
 -- a table that was written whole
 module _ (s old new : List ℕ) (n : ℕ) where
-  written : (l : Listing) → Length n ≡ answer_to l old → new ≡ filled_to l old → (t : List ℕ) → list_of s ≡ l →
+  written : (l : Listing) → Ok n ≡ answer_to l old → new ≡ filled_to l old → (t : List ℕ) → list_of s ≡ l →
       looked (take n new) t ≡ accepted s t
   unfolding answer filled
   written (refused number place) a f t e = let impossible : n ≡ suc n = cc in absurd (omega arith)
@@ -59,18 +58,18 @@ module _ (s old new : List ℕ) (n : ℕ) where
       text : List ℕ
       text = table_text (ranges_of cs)
 
-      go : (short : Bool) → Length n ≡ answer_if short text → new ≡ filled_if short text old → looked (take n new) t ≡ accepted s t
+      go : (short : Bool) → Ok n ≡ answer_if short text → new ≡ filled_if short text old → looked (take n new) t ≡ accepted s t
       go true a f = let impossible : n ≡ suc n = cc in absurd (omega arith)
       go false a f =
           let size : n ≡ length text = cc in
           rw (f, size, take-append_seam text (drop (length text) old)) (table_agrees s cs e t)
 
   -- demand 3: whatever the buffer was, and whatever the version
-  pub agreement : Compiled s old new (Length n) → (t : List ℕ) → looked (take n new) t ≡ accepted s t
+  pub agreement : Compiled s old new (Ok n) → (t : List ℕ) → looked (take n new) t ≡ accepted s t
   agreement c t = written (list_of s) c.answers c.leaves t refl
 
-  pub yes_exactly : Compiled s old new (Length n) → (cs : List Clause) → list_of s ≡ clauses cs → (t : List ℕ) → (version_of t).verdict ≡ Accepted →
-      (looked (take n new) t ≡ Yes) ↔ (all_accept cs (value_in t) ≡ true)
+  pub yes_exactly : Compiled s old new (Ok n) → (cs : List Clause) → list_of s ≡ clauses cs → (t : List ℕ) → (version_of t).verdict ≡ Accepted →
+      (looked (take n new) t ≡ Ok true) ↔ (all_accept cs (value_in t) ≡ true)
   unfolding accepted
   yes_exactly c cs e t a =
       let answer : looked (take n new) t ≡ yes_or_no (all_accept cs (value_in t)) = agreement c t ∙ (rw (e, a) refl) in

@@ -1,9 +1,9 @@
 -- A table that was written says its ranges again.
 -- Assumes nothing.
+use Rattle.std.specs.Prelude.{Option, None, Some}
 use mathlib.Core.Path.{◌≡◌, refl}
 use mathlib.Core.Bool.{true}
 use mathlib.Core.List.{List, [], ◌∷◌, ◌++◌}
-use mathlib.Core.Option.{Option, none, some}
 use Prim.Native.Nat.{ℕ, ◌+◌, ◌≤◌, ◌<◌}
 use native.Mathlib.Omega.{arith}
 use lib.ListN.{length}
@@ -32,17 +32,17 @@ text_short : (v : Value) → Writable v → length (value_text v) < 65536
 text_short v w = omega (arith, unlabelled_length v w.readable w.unlabelled)
 
 beyond_ascends : (b : Option Place) (p : Place) → Beyond le_place b p → ascends b p ≡ true
-beyond_ascends none p e = refl
-beyond_ascends (some b) p e = rw e
+beyond_ascends None p e = refl
+beyond_ascends (Some b) p e = rw e
 
 abbrev ended : Place → ℕ → Option Ended
-ended p next = some (record { place = p; next = next })
+ended p next = Some (record { place = p; next = next })
 
 -- what is said of the record of an end that is due
 record Sort (due : Due) (kind : ℕ) (p : Place) : Type 0 where
   short : length (body_text p) < 65536
   small : kind < 65536
-  said : end_due due (kind_of kind) (body_text p) ≡ some p
+  said : end_due due (kind_of kind) (body_text p) ≡ Some p
 
 module _ (due : Due) (kind : ℕ) (p : Place) (sort : Sort due kind p) (s : List ℕ) (at : ℕ) (rest : List ℕ)
     (here : Here s at (record_text kind (body_text p) ++ rest)) where
@@ -89,15 +89,15 @@ ranges_here s at b (r ∷ T) w asc h =
     end_next IsUpper (upper_kind high) high u s middle (ranges_text T) upper in
     rw (
       end_here IsLower (lower_kind low) low l s at rest h b asc.0,
-      end_here IsUpper (upper_kind high) high u s middle (ranges_text T) upper (some low) asc.1,
-      ranges_here s last (some high) T w.1 asc.2 after_both,
+      end_here IsUpper (upper_kind high) high u s middle (ranges_text T) upper (Some low) asc.1,
+      ranges_here s last (Some high) T w.1 asc.2 after_both,
     )
 
 whole : (T : List (Range Place)) → Here (table_text T) 0 (record_text range_count (two_bytes_of (length T)) ++ ranges_text T)
 unfolding table_text
 whole T = record { left = refl; size = omega arith }
 
-pub reread : (T : List (Range Place)) → All Written T → Asc le_place none T → length T ≤ 17 → table_of (table_text T) ≡ ranges T
+pub reread : (T : List (Range Place)) → All Written T → Asc le_place None T → length T ≤ 17 → table_of (table_text T) ≡ ranges T
 unfolding table_of kind_of
 reread T w asc few =
     let s = table_text T in
@@ -110,5 +110,5 @@ reread T w asc few =
       long,
       number_here s 0 range_count (length T) (ranges_text T) h (omega (arith, few)),
       le-ltb 17 (length T) few,
-      ranges_here s 6 none T w asc next,
+      ranges_here s 6 None T w asc next,
     )

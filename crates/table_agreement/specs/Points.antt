@@ -1,19 +1,17 @@
 -- The known points of document 01 that are to be proved, as one table.
-use Rattle.std.specs.Prelude.{◌≡◌, List, [], ◌∷◌, ℕ}
+use Rattle.std.specs.declared.cmp.Ordering.TheVariants.{Less, Equal}
+use Rattle.std.specs.declared.cmp.Ordering.{Ordering as Order}
+use Rattle.answers.specs.declared.RefusedInput.{RefusedInput}
+use Rattle.std.specs.Prelude.{◌≡◌, List, [], ◌∷◌, ℕ, Result, Bool, Ok, true, false, Some}
 use Prim.Native.String.{String}
 use Rattle.answers.specs.Refusal.{refusal}
 use Rattle.chars.specs.Text.{ascii}
 use Rattle.version_reading.specs.declared.text.Verdict.TheVariants.{Accepted, Refused}
 use Rattle.version_reading.specs.Reading.{pattern_of, version_of}
 use Rattle.version_normal.specs.Normal.{normal_text}
-use Rattle.version_order.specs.declared.compared.Compared.{Compared}
-use Rattle.version_order.specs.declared.compared.Compared.TheVariants.{Less, Equal}
 use Rattle.version_order.specs.Compared.{compared}
-use Rattle.version_word.specs.declared.packed.Worded.TheVariants.{Word}
 use Rattle.version_word.specs.Beside.{word_is}
 use Rattle.version_word.specs.Worded.{word_answer}
-use Rattle.answers.specs.declared.YesNo.{YesNo}
-use Rattle.answers.specs.declared.YesNo.TheVariants.{Yes, No}
 use Rattle.list_clauses.specs.List.{Listing, refused, clauses, list_of}
 use Rattle.list_accepting.specs.Accept.{accepted}
 use Rattle.list_ends.specs.Shape.{ranges_of}
@@ -25,9 +23,9 @@ pub data Point : Type 0 where
   prints : String → String → Point
   refuses : String → ℕ → ℕ → Point
   no_pattern : String → ℕ → ℕ → Point
-  compares : String → String → Compared → Point
+  compares : String → String → Result Order RefusedInput → Point
   packs : String → ℕ → Point
-  says : String → String → YesNo → Point
+  says : String → String → Result Bool RefusedInput → Point
   compiles : String → List ℕ → Point
 
 -- the bytes of the table that a list says; a refused list says none
@@ -40,7 +38,7 @@ Holds (prints s t) = ((version_of (ascii s)).verdict ≡ Accepted) × (normal_te
 Holds (refuses s number place) = (version_of (ascii s)).verdict ≡ Refused (refusal number place)
 Holds (no_pattern s number place) = (pattern_of (ascii s)).verdict ≡ Refused (refusal number place)
 Holds (compares s t order) = compared (ascii s) (ascii t) ≡ order
-Holds (packs s word) = word_answer (ascii s) ≡ Word (word_is word)
+Holds (packs s word) = word_answer (ascii s) ≡ Ok (Some (word_is word))
 Holds (says list s answer) = accepted (ascii list) (ascii s) ≡ answer
 Holds (compiles list bytes) = table_said (list_of (ascii list)) ≡ bytes
 
@@ -62,12 +60,12 @@ points =
     ∷ refuses "1.* " 6 1
     ∷ prints "1.0A-" "1.0a0"
     ∷ prints "1+0018" "1+18"
-    ∷ compares "1+18446744073709551616" "1+0" Less
-    ∷ compares "1.0a1.dev18446744073709551615" "1.0a1" Equal
+    ∷ compares "1+18446744073709551616" "1+0" (Ok Less)
+    ∷ compares "1.0a1.dev18446744073709551615" "1.0a1" (Ok Equal)
     ∷ packs "1.2.3" 0x0001020300A00000
     ∷ packs "65535.255.255.255.post2097151" 0xFFFFFFFFFFDFFFFF
-    ∷ compares "4.9" "4.10" Less
-    ∷ says "~=4.2.1" "4.2.9" Yes
-    ∷ says "~=4.2.1" "4.3" No
+    ∷ compares "4.9" "4.10" (Ok Less)
+    ∷ says "~=4.2.1" "4.2.9" (Ok true)
+    ∷ says "~=4.2.1" "4.3" (Ok false)
     ∷ compiles ">=4.2,!=4.3" example_table
     ∷ []

@@ -26,13 +26,11 @@ pub(crate) fn put_count(buf: &mut [u8], at: usize, count: usize) -> usize
 fn put_body(buf: &mut [u8], at: usize, end: End) -> usize
     ensures { Put 1049325 buf.old at (end_text end) buf.new result }
 {
-    let side = end.side;
-    let version = end.version;
-    match side {
+    match end.side {
         Side::Bottom => at,
         Side::Top => at,
-        Side::Before => put_version(buf, at, b"", version),
-        Side::After => put_version(buf, at, b"", version),
+        Side::Before => put_version(buf, at, b"", end.version),
+        Side::After => put_version(buf, at, b"", end.version),
     }
 }
 
@@ -62,8 +60,7 @@ pub(crate) fn put_end(buf: &mut [u8], at: usize, kind: usize, end: End) -> usize
 pub(crate) fn lower_kind(end: End) -> usize
     ensures { result ≡ lower_kind (place_of end) }
 {
-    let side = end.side;
-    match side {
+    match end.side {
         Side::Bottom => NONE_BELOW,
         Side::Top => NONE_BELOW,
         Side::Before => FROM_BEFORE,
@@ -74,8 +71,7 @@ pub(crate) fn lower_kind(end: End) -> usize
 pub(crate) fn upper_kind(end: End) -> usize
     ensures { result ≡ upper_kind (place_of end) }
 {
-    let side = end.side;
-    match side {
+    match end.side {
         Side::Bottom => NONE_ABOVE,
         Side::Top => NONE_ABOVE,
         Side::Before => TO_BEFORE,

@@ -1,9 +1,9 @@
 -- The ways of `body_row`: the row of an end's body.
 -- Assumes nothing.
+use Rattle.std.specs.Prelude.{Option, None, Some}
 use mathlib.Core.Path.{◌≡◌, refl}
 use mathlib.Core.Bool.{Bool, true, false, cond}
 use mathlib.Core.List.{List}
-use mathlib.Core.Option.{Option, none, some}
 use Prim.Native.Nat.{ℕ}
 use lib.Dec.{eqb}
 use lib.ListN.{length}
@@ -20,28 +20,28 @@ use Rattle.table_lookup.specs.Rows.{RowPlace, at_row, RowsOf, Said}
 
 -- a value that is there, with its row
 abbrev ValueSaid : Option Value → Bool → List ℕ → Type 0
-ValueSaid none there row = there ≡ false
-ValueSaid (some v) there row = (there ≡ true) × RowOf v row
+ValueSaid None there row = there ≡ false
+ValueSaid (Some v) there row = (there ≡ true) × RowOf v row
 
 value_said : (text old new : List ℕ) (r : Bool) → NormalRow text old new r → ValueSaid (normal_value text) r new
 value_said text old new r p = go (normal_value text) refl p.is p.leaves
   where
     go : (o : Option Value) → normal_value text ≡ o → r ≡ is_there o → new ≡ row_or o old → ValueSaid o r new
-    go none e f g = f
-    go (some v) e f g = (f, record { is = g; few = normal_few text v e })
+    go None e f g = f
+    go (Some v) e f g = (f, record { is = g; few = normal_few text v e })
 
 said_before : (o : Option Value) (r : Bool) (row : List ℕ) → ValueSaid o r row → Said (at before o) r (before row)
-said_before none r row h = h
-said_before (some v) r row h = let few = h.1.few in (h.0, record { is = rw h.1.is; few = few })
+said_before None r row h = h
+said_before (Some v) r row h = let few = h.1.few in (h.0, record { is = rw h.1.is; few = few })
 
 said_after : (o : Option Value) (r : Bool) (row : List ℕ) → ValueSaid o r row → Said (at after o) r (after row)
-said_after none r row h = h
-said_after (some v) r row h = let few = h.1.few in (h.0, record { is = rw h.1.is; few = few })
+said_after None r row h = h
+said_after (Some v) r row h = let few = h.1.few in (h.0, record { is = rw h.1.is; few = few })
 
 bare_said : (p : Place) (a : RowPlace) (body : List ℕ) → RowsOf p a → Said (bare p body) (eqb (length body) 0) a
 bare_said p a body h = by (eqb (length body) 0)
   where
-    by : (empty : Bool) → Said (cond empty (some p) none) empty a
+    by : (empty : Bool) → Said (cond empty (Some p) None) empty a
     by true = (refl, h)
     by false = refl
 

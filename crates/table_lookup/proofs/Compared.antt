@@ -1,15 +1,15 @@
 -- The ways of the functions that compare ends: by level, then by row, then by side. Ends compare as their places do.
 -- Assumes nothing.
+use Rattle.std.specs.Prelude.{Option, None, Some}
 use mathlib.Core.Path.{◌≡◌, refl, sym, ◌∙◌}
 use mathlib.Core.Bool.{Bool, true, false, not, ◌||◌}
 use mathlib.Core.List.{List}
-use mathlib.Core.Option.{Option, none, some}
 use Prim.Native.Nat.{ℕ, compare}
 use native.Mathlib.Omega.{arith}
 use lib.Dec.{leb}
 use Rattle.order.specs.Ordering.{Ordering, lt, eq, gt, is_le, also}
-use Rattle.order.specs.declared.Order.{Order}
-use Rattle.order.specs.declared.Order.TheVariants.{Less, Equal, Greater}
+use Rattle.std.specs.declared.cmp.Ordering.{Ordering as Order}
+use Rattle.std.specs.declared.cmp.Ordering.TheVariants.{Less, Equal, Greater}
 use Rattle.order.specs.Answer.{name_of}
 use Rattle.order.specs.Compare.{padded, option}
 use Rattle.order.proofs.Ordering.{also_decided}
@@ -40,13 +40,13 @@ side_is Before row = refl
 side_is After row = refl
 
 -- below all and above all have no row and no side
-outer : (x : RowPlace) → (level x ≡ 1 → ⊥) → (value x ≡ none) × (side x ≡ 0)
+outer : (x : RowPlace) → (level x ≡ 1 → ⊥) → (value x ≡ None) × (side x ≡ 0)
 outer bot h = (refl, refl)
 outer top h = (refl, refl)
 outer (before row) h = absurd (h refl)
 outer (after row) h = absurd (h refl)
 
-at_version : (s : Side) (row : List ℕ) → level (at_row s row) ≡ 1 → value (at_row s row) ≡ some row
+at_version : (s : Side) (row : List ℕ) → level (at_row s row) ≡ 1 → value (at_row s row) ≡ Some row
 at_version Bottom row h = absurd (omega arith)
 at_version Top row h = absurd (omega arith)
 at_version Before row h = refl
@@ -127,8 +127,8 @@ side_rowed (before v) = refl
 side_rowed (after v) = refl
 
 abbrev row_in : Option Value → Option (List ℕ)
-row_in none = none
-row_in (some v) = some (row_of v)
+row_in None = None
+row_in (Some v) = Some (row_of v)
 
 value_rowed : (p : Place) → value (rowed p) ≡ row_in (value p)
 value_rowed bot = refl
@@ -137,10 +137,10 @@ value_rowed (before v) = refl
 value_rowed (after v) = refl
 
 values_compare : (x y : Option Value) → HasRoom x → HasRoom y → option (padded compare 0) (row_in x) (row_in y) ≡ option compare_public x y
-values_compare none none h k = refl
-values_compare none (some w) h k = refl
-values_compare (some v) none h k = refl
-values_compare (some v) (some w) h k = rows_compare v w h k
+values_compare None None h k = refl
+values_compare None (Some w) h k = refl
+values_compare (Some v) None h k = refl
+values_compare (Some v) (Some w) h k = rows_compare v w h k
 
 pub rows_le : (p q : Place) (a b : RowPlace) → RowsOf p a → RowsOf q b → le_row a b ≡ le_place p q
 rows_le p q a b f g =

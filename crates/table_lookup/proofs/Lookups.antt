@@ -1,12 +1,13 @@
 -- The ways of `judge`, `lookup_row` and `lookup`: looking a text's row up is looking the text up.
 -- Assumes nothing.
+use Rattle.answers.specs.declared.RefusedInput.TheVariants.{First, Second}
+use Rattle.answers.specs.declared.RefusedInput.{RefusedInput}
+use Rattle.std.specs.Prelude.{Result, Err, Ok}
 use mathlib.Core.Path.{◌≡◌, refl, ◌∙◌, ap}
-use mathlib.Core.Bool.{Bool}
+use mathlib.Core.Bool.{Bool, true, false}
 use mathlib.Core.List.{List, [], ◌∷◌}
 use Prim.Native.Nat.{ℕ}
 use Rattle.answers.specs.declared.Refusal.{Refusal}
-use Rattle.answers.specs.declared.YesNo.{YesNo}
-use Rattle.answers.specs.declared.YesNo.TheVariants.{First as Table, Second as Version}
 use Rattle.order.specs.All.{All}
 use Rattle.ranges.specs.Cut.{bot, top, before, after, value}
 use Rattle.ranges.specs.Range.{Range, mem}
@@ -21,22 +22,24 @@ use Rattle.list_ends.specs.Writable.{Lower, Upper, Written}
 use Rattle.table_reading.specs.Table.{Tabled, refused, ranges, table_of}
 use Rattle.table_reading.specs.Lookup.{judged, looked_up, looked}
 use Rattle.table_reading.proofs.Tables.{well_formed}
-use Rattle.table_lookup.specs.declared.search.Searched.{Searched}
-use Rattle.table_lookup.specs.declared.search.Searched.TheVariants.{Refused, Held}
 use Rattle.table_lookup.specs.Rows.{rowed, HasRoom, RowsOf}
 use Rattle.table_lookup.specs.Lookup.{holds_row, searched_for, told, looked_row}
 use Rattle.table_lookup.proofs.Compared.{rows_le}
 
-pub judge_refused : (v : Verdict) (held : Bool) (x : Refusal) → v ≡ NotAccepted x → Version x ≡ judged v held
+pub judge_accepted : (v : Verdict) (held : Bool) → v ≡ Accepted → Ok held ≡ judged v held
+judge_accepted v true e = rw e
+judge_accepted v false e = rw e
+
+pub judge_refused : (v : Verdict) (held : Bool) (x : Refusal) → v ≡ NotAccepted x → Err (Second x) ≡ judged v held
 judge_refused v held x e = rw e
 
 -- the ways of `lookup_row`
-module _ (s row : List ℕ) (verdict : Verdict) (q : Searched) (e : q ≡ searched_for row (table_of s)) where
-  pub row_refused : (x : Refusal) → q ≡ Refused x → Table x ≡ looked_row s verdict row
+module _ (s row : List ℕ) (verdict : Verdict) (q : Result Bool Refusal) (e : q ≡ searched_for row (table_of s)) where
+  pub row_refused : (x : Refusal) → q ≡ Err x → Err (First x) ≡ looked_row s verdict row
   unfolding looked_row
   row_refused x f = rw (← e, f)
 
-  pub row_held : (held : Bool) (r : YesNo) → q ≡ Held held → r ≡ judged verdict held → r ≡ looked_row s verdict row
+  pub row_held : (held : Bool) (r : Result Bool RefusedInput) → q ≡ Ok held → r ≡ judged verdict held → r ≡ looked_row s verdict row
   unfolding looked_row
   row_held held r f g = rw (← e, f) g
 
@@ -82,5 +85,5 @@ module _ (s text old row : List ℕ) (verdict : Verdict) (read : RowRead text ol
   unfolding looked_row looked
   row_looked = by_table (table_of s) refl ∙ ap (λ x. looked_up (table_of s) x (value_in text)) read.is
 
-  pub text_looked : (r : YesNo) → r ≡ looked_row s verdict row → r ≡ looked s text
+  pub text_looked : (r : Result Bool RefusedInput) → r ≡ looked_row s verdict row → r ≡ looked s text
   text_looked r e = e ∙ row_looked

@@ -1,6 +1,5 @@
 -- Places between rows: the places between versions, with each version's row in its stead.
-use Rattle.std.specs.Prelude.{◌≡◌, Bool, true, false, List, length}
-use Rattle.std.proofs.Math.Option.{Option, none, some}
+use Rattle.std.specs.Prelude.{◌≡◌, Bool, true, false, List, length, Option, None, Some}
 use Prim.Native.Nat.{ℕ, ◌≤◌, compare}
 use Rattle.order.specs.Compare.{padded}
 use Rattle.ranges.specs.Cut.{Cut, bot, top, before, after, value, le_cut}
@@ -33,8 +32,8 @@ rowed (after v) = after (row_of v)
 
 -- there is room in a row for the release of the version, if there is one
 abbrev pub HasRoom : Option Value → Type 0
-HasRoom none = Unit {0}
-HasRoom (some v) = length v.release ≤ 16
+HasRoom None = Unit {0}
+HasRoom (Some v) = length v.release ≤ 16
 
 pub record RowsOf (p : Place) (a : RowPlace) : Type 0 where
   pub is : a ≡ rowed p
@@ -42,5 +41,5 @@ pub record RowsOf (p : Place) (a : RowPlace) : Type 0 where
 
 -- whether there is a place, and where there is one, that it is `a`
 abbrev pub Said : Option Place → Bool → RowPlace → Type 0
-Said none there a = there ≡ false
-Said (some p) there a = (there ≡ true) × RowsOf p a
+Said None there a = there ≡ false
+Said (Some p) there a = (there ≡ true) × RowsOf p a

@@ -5,7 +5,7 @@ ghost use Rattle.ranges.specs.Range.{within};
 ghost use Rattle.table_lookup.specs.Rows.{le_row, at_row};
 
 use list_ends::end::{Side, level_of, side_of};
-use order::Order;
+use std::cmp::Ordering;
 use version_rows::row::compare_rows;
 
 // Whether the end `a` at `row` lies at or below the end `b` at `against`: by level, then by row, then by side.
@@ -21,9 +21,9 @@ pub(crate) fn at_most(a: Side, row: &[u64; 22], b: Side, against: &[u64; 22]) ->
         return true;
     }
     match compare_rows(row, against) {
-        Order::Less => true,
-        Order::Equal => side_of(a) <= side_of(b),
-        Order::Greater => false,
+        Ordering::Less => true,
+        Ordering::Equal => side_of(a) <= side_of(b),
+        Ordering::Greater => false,
     }
 }
 

@@ -1,32 +1,27 @@
 // The next end of a table, which must lie strictly above the end before it.
-ghost use Rattle.std.specs.Prelude.{◌≡◌, not, ◌&&◌};
+ghost use Rattle.std.specs.Prelude.{◌≡◌};
 ghost use Rattle.table_reading.specs.Body.{end_of};
-ghost use Rattle.table_lookup.specs.Rows.{le_row, at_row, Said};
-ghost use Rattle.table_lookup.specs.Ends.{none_found, EndAbove, NextEnd};
+ghost use Rattle.table_lookup.specs.Rows.{at_row, Said};
+ghost use Rattle.table_lookup.specs.Ends.{over, EndAbove, NextEnd};
 
 use crate::end::at_most;
+use answers::Refusal;
 use list_ends::end::Side;
 use records::record::{RecordAt, record_at};
-use table_reading::kind::{Due, Kind, is_due, kind_of};
+use table_reading::kind::{Due, Kind, kind_of};
 use version_rows::normal::normal_row;
 
-// Whether an end was found, the place after its record, and its side; its row stands beside it. Where none was found, the next one is due at
-// `next`.
+// The one refusal of a table.
+pub(crate) const BAD_TABLE: Refusal = Refusal {
+    number: 18,
+    place: 0,
+};
+
+// The side of an end, and the place after its record. Its row stands beside it.
 #[derive(Clone, Copy)]
 pub struct EndAt {
-    pub found: bool,
-    pub next: usize,
     pub side: Side,
-}
-
-pub(crate) fn none_found(next: usize) -> EndAt
-    ensures { result ≡ none_found next }
-{
-    EndAt {
-        found: false,
-        next,
-        side: Side::Bottom,
-    }
+    pub next: usize,
 }
 
 // Whether `body` is right for an end of that side: none below and none above have no body, the others a version's normal text. Leaves its row.
@@ -42,53 +37,53 @@ fn body_row(side: Side, body: &[u8], row: &mut [u64; 22]) -> bool
 }
 
 // The first end of a table has none before it.
-fn is_above(side: Side, row: &[u64; 22], last: EndAt, below: &[u64; 22]) -> bool
-    ensures { result ≡ not (last.found && le_row (at_row side row.now) (at_row last.side below.now)) }
+fn is_above(side: Side, row: &[u64; 22], last: Option<Side>, below: &[u64; 22]) -> bool
+    ensures { result ≡ over (at_row side row.now) last below.now }
 {
-    if last.found {
-        let under = last.side;
-        return !at_most(side, row, under, below);
+    match last {
+        None => true,
+        Some(under) => !at_most(side, row, under, below),
     }
-    true
 }
 
 fn end_above(
     side: Side,
     body: &[u8],
     next: usize,
-    last: EndAt,
+    last: Option<Side>,
     below: &[u64; 22],
     row: &mut [u64; 22],
-) -> EndAt
+) -> Result<EndAt, Refusal>
     ensures { EndAbove (end_of side body.now) next last below.now result row.new }
 {
-    if body_row(side, body, row) {
-        let found = is_above(side, row, last, below);
-        return EndAt { found, next, side };
+    if !body_row(side, body, row) {
+        return Err(BAD_TABLE);
     }
-    none_found(next)
+    if !is_above(side, row, last, below) {
+        return Err(BAD_TABLE);
+    }
+    Ok(EndAt { side, next })
 }
 
-// The end after `last`, whose row is `below`, if it is the one that is due. Leaves its row.
+// The end whose record stands at `at`, if it is the one that is due and lies above `last`, whose row is `below`. Leaves its row.
 pub(crate) fn next_end(
     table: &[u8],
     due: Due,
-    last: EndAt,
+    at: usize,
+    last: Option<Side>,
     below: &[u64; 22],
     row: &mut [u64; 22],
-) -> EndAt
-    ensures { NextEnd due table.now last below.now result row.new }
+) -> Result<EndAt, Refusal>
+    ensures { NextEnd due table.now at last below.now result row.new }
 {
-    let at = last.next;
     let RecordAt::Found(number, start, next) = record_at(table, at) else {
-        return none_found(at);
+        return Err(BAD_TABLE);
     };
-    let kind = kind_of(number);
-    let Kind::End(end, side) = kind else {
-        return none_found(at);
+    let Kind::End(end, side) = kind_of(number) else {
+        return Err(BAD_TABLE);
     };
-    if is_due(due, end) {
+    if due == end {
         return end_above(side, &table[start..next], next, last, below, row);
     }
-    none_found(at)
+    Err(BAD_TABLE)
 }

@@ -9,33 +9,33 @@ ghost use Rattle.std.specs.Prelude.{◌≡◌};
 ghost use Rattle.table_reading.specs.Lookup.{judged, looked};
 ghost use Rattle.table_lookup.specs.Lookup.{looked_row};
 
-use crate::search::{Searched, search_table};
-use answers::YesNo;
+use crate::search::search_table;
+use answers::RefusedInput;
 use version_reading::text::Verdict;
 use version_rows::read::read_row;
 
 // What is said of a version, and where it is accepted, whether it is held.
-fn judge(verdict: Verdict, held: bool) -> YesNo
+fn judge(verdict: Verdict, held: bool) -> Result<bool, RefusedInput>
     ensures { result ≡ judged verdict held }
 {
-    if let Verdict::Refused(refusal) = verdict {
-        return YesNo::Second(refusal);
+    match verdict {
+        Verdict::Accepted => Ok(held),
+        Verdict::Refused(refusal) => Err(RefusedInput::Second(refusal)),
     }
-    if held { YesNo::Yes } else { YesNo::No }
 }
 
 // What `lookup` answers of `table` and the text of which `read_row` said `verdict` and left `row`: who asks several tables reads the text once.
-pub fn lookup_row(table: &[u8], verdict: Verdict, row: &[u64; 22]) -> YesNo
+pub fn lookup_row(table: &[u8], verdict: Verdict, row: &[u64; 22]) -> Result<bool, RefusedInput>
     ensures { result ≡ looked_row table.now verdict row.now }
 {
     match search_table(table, row) {
-        Searched::Refused(refusal) => YesNo::First(refusal),
-        Searched::Held(held) => judge(verdict, held),
+        Err(refusal) => Err(RefusedInput::First(refusal)),
+        Ok(held) => judge(verdict, held),
     }
 }
 
 // Whether `version`, without its label, lies between the two ends of some range of `table`. The table is judged before the version.
-pub fn lookup(table: &[u8], version: &[u8]) -> YesNo
+pub fn lookup(table: &[u8], version: &[u8]) -> Result<bool, RefusedInput>
     ensures { result ≡ looked table.now version.now }
 {
     let mut row = [0u64; 22];

@@ -1,5 +1,8 @@
 -- Worked points: the table of `>=4.2,!=4.3`, what it answers, and tables that are not well formed.
 -- Assumes nothing.
+use Rattle.answers.specs.declared.RefusedInput.TheVariants.{Second}
+use Rattle.answers.specs.declared.RefusedInput.{RefusedInput}
+use Rattle.std.specs.Prelude.{Result, Bool, Ok, true, false, Err}
 use mathlib.Core.Path.{◌≡◌, refl}
 use mathlib.Core.List.{List, [], ◌∷◌, ◌++◌, map}
 use Prim.Native.Nat.{ℕ}
@@ -11,14 +14,12 @@ use Rattle.version_reading.specs.Value.{listed, value_of, value_in}
 use Rattle.version_order.specs.Versions.{compare_release, compare_key, compare_public}
 use Rattle.version_roundtrip.proofs.Extremes.{computed}
 use Rattle.version_rows.specs.Normal.{normal_value}
-use Rattle.answers.specs.declared.YesNo.{YesNo}
-use Rattle.answers.specs.declared.YesNo.TheVariants.{Yes, No, Second as Version}
 use Rattle.table_reading.specs.Kind.{kind_of}
 use Rattle.table_reading.specs.Table.{Tabled, ranges, bad, ranges_from, table_of}
 use Rattle.table_reading.specs.Lookup.{looked}
 
 -- where this unfolds, all that lookup computes with does
-everything : List ℕ → List ℕ → Tabled × YesNo
+everything : List ℕ → List ℕ → Tabled × Result Bool RefusedInput
 unfolding computed looked table_of ranges_from record_at kind_of normal_value compare_public compare_release compare_key value_of listed
 everything s t = (table_of s, looked s t)
 
@@ -49,7 +50,7 @@ unfolding everything
 example_ranges = refl
 
 pub example_answers : map (looked example) (ascii "4.2" ∷ ascii "4.3.0+b1" ∷ ascii "v5.0-1" ∷ ascii "x" ∷ []) ≡
-    Yes ∷ No ∷ Yes ∷ Version (refusal 1 0) ∷ []
+    (Ok true) ∷ (Ok false) ∷ (Ok true) ∷ Err (Second (refusal 1 0)) ∷ []
 unfolding everything
 example_answers = refl
 

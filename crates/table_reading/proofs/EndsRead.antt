@@ -1,9 +1,9 @@
 -- What is known of an end that was read: its version is readable and has no label, and it lies strictly above the end before it.
 -- Assumes nothing.
+use Rattle.std.specs.Prelude.{Option, None, Some}
 use mathlib.Core.Path.{◌≡◌, refl}
 use mathlib.Core.Bool.{true}
 use mathlib.Core.List.{List}
-use mathlib.Core.Option.{Option, none, some}
 use Prim.Native.Nat.{ℕ}
 use lib.Dec.{eqb}
 use lib.ListN.{length}
@@ -30,28 +30,28 @@ use Rattle.table_reading.specs.Body.{at, bare, end_of}
 use Rattle.table_reading.specs.Table.{end_due, ascends, Ended, above, end_in}
 
 abbrev ValueIs : (Value → Type 0) → Option Value → Type 0
-ValueIs Q none = Unit {0}
-ValueIs Q (some v) = Q v
+ValueIs Q None = Unit {0}
+ValueIs Q (Some v) = Q v
 
 abbrev PlaceIs : (Place → Type 0) → Option Place → Type 0
-PlaceIs Q none = Unit {0}
-PlaceIs Q (some p) = Q p
+PlaceIs Q None = Unit {0}
+PlaceIs Q (Some p) = Q p
 
 -- the end lies above the one before it, too
 abbrev pub EndIs : (Place → Type 0) → Option Place → Option Ended → Type 0
-EndIs Q b none = Unit {0}
-EndIs Q b (some e) = Beyond le_place b e.place × Q e.place
+EndIs Q b None = Unit {0}
+EndIs Q b (Some e) = Beyond le_place b e.place × Q e.place
 
-value_is : (Q : Value → Type 0) (o : Option Value) → ((v : Value) → o ≡ some v → Q v) → ValueIs Q o
-value_is Q none f = tt
-value_is Q (some v) f = f v refl
+value_is : (Q : Value → Type 0) (o : Option Value) → ((v : Value) → o ≡ Some v → Q v) → ValueIs Q o
+value_is Q None f = tt
+value_is Q (Some v) f = f v refl
 
 version_writable : (body : List ℕ) → ValueIs Writable (normal_value body)
 version_writable body = value_is Writable (normal_value body) (normal_writable body)
 
 at_is : (Q : Place → Type 0) (side : Value → Place) → ((v : Value) → Writable v → Q (side v)) → (o : Option Value) → ValueIs Writable o → PlaceIs Q (at side o)
-at_is Q side f none h = tt
-at_is Q side f (some v) h = f v h
+at_is Q side f None h = tt
+at_is Q side f (Some v) h = f v h
 
 bare_is : (Q : Place → Type 0) (p : Place) (body : List ℕ) → Q p → PlaceIs Q (bare p body)
 bare_is Q p body h = by_cond (PlaceIs Q) (eqb (length body) 0) (λ e. h) (λ e. tt)
@@ -96,12 +96,12 @@ due_is IsUpper (End IsLower side) body h = tt
 due_is IsUpper (End IsUpper side) body h = h body
 
 beyond : (b : Option Place) (p : Place) → ascends b p ≡ true → Beyond le_place b p
-beyond none p e = tt
-beyond (some below) p e = not-true (le_place p below) e
+beyond None p e = tt
+beyond (Some below) p e = not-true (le_place p below) e
 
 above_is : (Q : Place → Type 0) (b : Option Place) (next : ℕ) (o : Option Place) → PlaceIs Q o → EndIs Q b (above b next o)
-above_is Q b next none h = tt
-above_is Q b next (some p) h = by_cond (EndIs Q b) (ascends b p) (λ e. (beyond b p e, h)) (λ e. tt)
+above_is Q b next None h = tt
+above_is Q b next (Some p) h = by_cond (EndIs Q b) (ascends b p) (λ e. (beyond b p e, h)) (λ e. tt)
 
 pub end_is : (due : Due) (b : Option Place) (s : List ℕ) (r : RecordAt) → EndIs (OfSort due) b (end_in due b s r)
 end_is due b s (Found number start next) =

@@ -1,5 +1,4 @@
 pub mod Anchors
-pub mod Numbers
 pub mod Places
 pub mod EndsRead
 pub mod Tables

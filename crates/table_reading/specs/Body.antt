@@ -1,6 +1,5 @@
 -- The bodies of ends: V's normal text, or none.
-use Rattle.std.specs.Prelude.{cond, List, ℕ, eqb, length}
-use Rattle.std.proofs.Math.Option.{Option, none, some}
+use Rattle.std.specs.Prelude.{cond, List, ℕ, eqb, length, Option, None, Some}
 use Rattle.ranges.specs.Cut.{bot, top, before, after}
 use Rattle.version_reading.specs.Value.{Value}
 use Rattle.version_rows.specs.Normal.{normal_value}
@@ -9,12 +8,12 @@ use Rattle.list_ends.specs.declared.end.Side.TheVariants.{Bottom, Top, Before, A
 use Rattle.list_ends.specs.Cut.{Place}
 
 abbrev pub at : (Value → Place) → Option Value → Option Place
-at side none = none
-at side (some v) = some (side v)
+at side None = None
+at side (Some v) = Some (side v)
 
 -- none below and none above have no body
 abbrev pub bare : Place → List ℕ → Option Place
-bare p body = cond (eqb (length body) 0) (some p) none
+bare p body = cond (eqb (length body) 0) (Some p) None
 
 -- the end of a side with a body
 abbrev pub end_of : Side → List ℕ → Option Place

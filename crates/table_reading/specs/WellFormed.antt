@@ -1,6 +1,5 @@
 -- What is said of the ranges of a well-formed table.
-use Rattle.std.specs.Prelude.{◌≡◌, List, [], ◌∷◌, ◌≤◌, length}
-use Rattle.std.proofs.Math.Option.{none}
+use Rattle.std.specs.Prelude.{◌≡◌, List, [], ◌∷◌, ◌≤◌, length, None}
 use Rattle.order.specs.All.{All}
 use Rattle.ranges.specs.Cut.{bot, top}
 use Rattle.ranges.specs.Range.{Range}
@@ -22,7 +21,7 @@ AboveLast (r ∷ q ∷ T) = (r.hi ≡ top → ⊥) × AboveLast (q ∷ T)
 -- at most 17 ranges, which ascend strictly and stay apart, and whose versions are readable and have no label
 pub record WellFormed (T : List (Range Place)) : Type 0 where
   pub few : length T ≤ 17
-  pub ascend : Asc le_place none T
+  pub ascend : Asc le_place None T
   pub first : BelowFirst T
   pub last : AboveLast T
   pub ends : All Written T

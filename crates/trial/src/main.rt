@@ -4,8 +4,10 @@
 mod made;
 mod tally;
 
-use chars::place::part;
+use answer_lines::line::Line;
+use made::{Seed, put_list};
 use std::io::Write;
+use tally::Tally;
 
 const LISTS: u64 = 5000;
 
@@ -13,24 +15,17 @@ fn main(rt: HostRuntime) {
     let mut list = [0u8; 4096];
     let mut text = [0u8; 4096];
     let mut table = [0u8; 65536];
-    let mut tally = tally::nothing();
-    let mut seed = 1;
-    let mut lists = 0;
-    while lists < LISTS {
-        let made = made::put_list(&mut list, seed);
-        tally = tally::one_list(
-            tally,
-            part(&list, 0, made.end),
-            &mut text,
-            &mut table,
-            made.seed,
-        );
-        seed = tally.seed;
-        lists += 1;
+    let mut tally = Tally::default();
+    let mut seed = Seed::first();
+    for _ in 0..LISTS {
+        let mut made = Line::new(&mut list);
+        put_list(&mut made, &mut seed);
+        tally.ask(made.so_far(), &mut text, &mut table, &mut seed);
     }
     let mut out = [0u8; 256];
-    let end = tally::put_tally(&mut out, tally);
+    let mut line = Line::new(&mut out);
+    tally.put(&mut line);
     let mut output = rt.stdout();
     // Nobody is left to be told of a write that fails.
-    let _ = output.write_all(part(&out, 0, end));
+    let _ = output.write_all(line.so_far());
 }

@@ -1,14 +1,13 @@
--- The cases of an answer, each with its equation: `elim (number_cases x) [ .. ]` goes by cases and keeps what it found.
+-- The cases of an answer, each with its equation: `elim (number_cases ..) [ .. ]` goes by cases and keeps what it found.
 -- Assumes nothing.
-use mathlib.Core.Path.{◌≡◌, refl}
+use Rattle.std.specs.Prelude.{None, Some, Ok, Err}
+use mathlib.Core.Path.{◌≡◌, refl, ap}
 use mathlib.Core.Bool.{Bool, true, false}
 use Prim.Native.Nat.{ℕ}
-use Rattle.version_parts.specs.declared.places.NumberAt.{NumberAt}
-use Rattle.version_parts.specs.declared.places.NumberAt.TheVariants.{Absent, Read, TooBig}
-use Rattle.version_parts.specs.declared.suffix.PreStep.{PreStep}
-use Rattle.version_parts.specs.declared.suffix.PreStep.TheVariants.{Read as PreIs, TooBig as PreTooBig}
-use Rattle.version_parts.specs.declared.suffix.PartStep.{PartStep}
-use Rattle.version_parts.specs.declared.suffix.PartStep.TheVariants.{Read as PartIs, TooBig as PartTooBig}
+use Rattle.answers.specs.Refusal.{refusal}
+use Rattle.version_parts.specs.Places.{NumberAt}
+use Rattle.version_parts.specs.Suffix.{Step}
+use Rattle.version.proofs.TooBig.{RefusedAt, RefusedPart}
 
 pub data FlagCases (x : Bool) : Type 0 where
   holds : x ≡ true → FlagCases x
@@ -18,25 +17,22 @@ pub flag_cases : (x : Bool) → FlagCases x
 flag_cases true = holds refl
 flag_cases false = fails refl
 
-pub data NumberCases (x : NumberAt) : Type 0 where
-  no_number : x ≡ Absent → NumberCases x
-  a_number : (n next : ℕ) → x ≡ Read n next → NumberCases x
-  big_number : x ≡ TooBig → NumberCases x
+-- a number whose digits begin at `at`
+pub data NumberCases (at : ℕ) (x : NumberAt) : Type 0 where
+  no_number : x ≡ Ok None → NumberCases at x
+  a_number : (n next : ℕ) → x ≡ Ok (Some (n, next)) → NumberCases at x
+  big_number : x ≡ Err (refusal 3 at) → NumberCases at x
 
-pub number_cases : (x : NumberAt) → NumberCases x
-number_cases Absent = no_number refl
-number_cases (Read n next) = a_number n next refl
-number_cases TooBig = big_number refl
+pub number_cases : (at : ℕ) (x : NumberAt) → RefusedAt at x → NumberCases at x
+number_cases at (Ok None) h = no_number refl
+number_cases at (Ok (Some (n, next))) h = a_number n next refl
+number_cases at (Err e) h = big_number (rw h)
 
--- a pre-release's step and that of a part without kinds: what was read and the place after it, or where a number is too big
-pub data StepCases {A X : Type 0} (read : A → ℕ → X) (big : ℕ → X) (x : X) : Type 0 where
-  a_part : (part : A) (next : ℕ) → x ≡ read part next → StepCases read big x
-  big_part : (d : ℕ) → x ≡ big d → StepCases read big x
+-- a part of the suffix: what was read and the place after it, or where a number is too big
+pub data StepCases {A : Type 0} (x : Step A) : Type 0 where
+  a_part : (part : A) (next : ℕ) → x ≡ Ok (part, next) → StepCases x
+  big_part : (d : ℕ) → x ≡ Err (refusal 3 d) → StepCases x
 
-pub pre_cases : (x : PreStep) → StepCases PreIs PreTooBig x
-pre_cases (PreIs pre next) = a_part pre next refl
-pre_cases (PreTooBig d) = big_part d refl
-
-pub part_cases : (x : PartStep) → StepCases PartIs PartTooBig x
-part_cases (PartIs part next) = a_part part next refl
-part_cases (PartTooBig d) = big_part d refl
+pub step_cases : {A : Type 0} (x : Step A) → RefusedPart x → StepCases x
+step_cases (Ok (part, next)) h = a_part part next refl
+step_cases (Err e) h = big_part e.place (ap Err h)

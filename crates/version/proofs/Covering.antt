@@ -1,5 +1,6 @@
 -- Every text is accepted or has a row. Each step of the reader, by cases, either ends there or has what the next step's rows ask.
 -- Assumes nothing.
+use Rattle.std.specs.Prelude.{Some, Ok}
 use mathlib.Core.Path.{◌≡◌, refl}
 use mathlib.Core.Bool.{Bool, true}
 use mathlib.Core.List.{List}
@@ -11,7 +12,6 @@ use lib.ListN.{length, get_or, drop}
 use Rattle.chars.specs.Text.{ascii}
 use Rattle.chars.specs.Class.{blank, between, front}
 use Rattle.chars.specs.Case.{starts_with}
-use Rattle.version_parts.specs.declared.places.NumberAt.TheVariants.{Read}
 use Rattle.version_reading.specs.declared.text.Verdict.TheVariants.{Accepted}
 use Rattle.version_parts.specs.Places.{separator_end, number_at, marked_number}
 use Rattle.version_parts.specs.Head.{lead_end}
@@ -31,6 +31,7 @@ use Rattle.version.specs.Refusals.{
   Fault,
   Row,
 }
+use Rattle.version.proofs.TooBig.{number_refusal, marked_refusal, pre_refusal, post_refusal, dev_refusal}
 use Rattle.version.proofs.Answers.{
   flag_cases,
   holds,
@@ -39,8 +40,7 @@ use Rattle.version.proofs.Answers.{
   no_number,
   a_number,
   big_number,
-  pre_cases,
-  part_cases,
+  step_cases,
   a_part,
   big_part,
 }
@@ -93,21 +93,21 @@ module _ (wildcards : Bool) (s : List ℕ) (short : length s ≤ longest) where
 
   from_dev : (at : ℕ) → PostRead s at → Judged wildcards s
   from_dev at p =
-      elim (part_cases (dev_at s at)) [
+      elim (step_cases (dev_at s at) (dev_refusal s at)) [
         | a_part dev next e ↦ from_label next (record { from = at; before = p; dev = dev; read = e })
         | big_part d e ↦ fault (Fault.dev_too_big at d p e)
       ]
 
   from_post : (at : ℕ) → PreRead s at → Judged wildcards s
   from_post at p =
-      elim (part_cases (post_at s at)) [
+      elim (step_cases (post_at s at) (post_refusal s at)) [
         | a_part post next e ↦ from_dev next (record { from = at; before = p; post = post; read = e })
         | big_part d e ↦ fault (Fault.post_too_big at d p e)
       ]
 
   from_pre : (at : ℕ) → Plain s at → Judged wildcards s
   from_pre at p =
-      elim (pre_cases (pre_at s at)) [
+      elim (step_cases (pre_at s at) (pre_refusal s at)) [
         | a_part pre next e ↦ from_post next (record { from = at; plain = p; pre = pre; read = e })
         | big_part d e ↦ fault (Fault.pre_too_big at d p e)
       ]
@@ -131,10 +131,10 @@ module _ (wildcards : Bool) (s : List ℕ) (short : length s ≤ longest) where
       ]
 
   -- a number may stand after a dot at `at`: where it does, `more` says what comes of it
-  from_dot : (at count : ℕ) → Listed s at count → ((n next : ℕ) → marked_number (code ".") s at ≡ Read n next → Judged wildcards s) →
+  from_dot : (at count : ℕ) → Listed s at count → ((n next : ℕ) → marked_number (code ".") s at ≡ Ok (Some (n, next)) → Judged wildcards s) →
       Judged wildcards s
   from_dot at count l more =
-      elim (number_cases (marked_number (code ".") s at)) [
+      elim (number_cases (at + 1) (marked_number (code ".") s at) (marked_refusal s at (code "."))) [
         | no_number e ↦ from_release at (record { count = count; listed = l; last = e })
         | a_number n next e ↦ more n next e
         | big_number e ↦ fault (Fault.release_too_big at count l e)
@@ -151,13 +151,13 @@ module _ (wildcards : Bool) (s : List ℕ) (short : length s ≤ longest) where
 
   from_epoch : (at : ℕ) → Epoch s at → Judged wildcards s
   from_epoch at b =
-      elim (number_cases (number_at s at)) [
+      elim (number_cases at (number_at s at) (number_refusal s at)) [
         | no_number e ↦ fault (Fault.no_release_number at b e)
         | a_number n next e ↦ from_number 15 next 1 refl (Listed.behind_epoch n at next b e)
         | big_number e ↦ fault (Fault.first_too_big at b e)
       ]
 
-  from_first : (n next : ℕ) → number_at s (lead_end s) ≡ Read n next → Judged wildcards s
+  from_first : (n next : ℕ) → number_at s (lead_end s) ≡ Ok (Some (n, next)) → Judged wildcards s
   from_first n next e =
       elim (ℕ_discrete (get_or s next 0) (code "!")) [
         | yes mark ↦ from_epoch _ (record { epoch = n; mark = next; number = e; marked = mark; behind = refl })
@@ -166,7 +166,7 @@ module _ (wildcards : Bool) (s : List ℕ) (short : length s ≤ longest) where
 
   from_start : Judged wildcards s
   from_start =
-      elim (number_cases (number_at s (lead_end s))) [
+      elim (number_cases (lead_end s) (number_at s (lead_end s)) (number_refusal s (lead_end s))) [
         | no_number e ↦ fault (Fault.no_leading_number e)
         | a_number n next e ↦ from_first n next e
         | big_number e ↦ fault (Fault.leading_too_big e)

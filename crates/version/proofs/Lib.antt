@@ -2,6 +2,7 @@ pub mod Releases
 pub mod Segments
 pub mod Stages
 pub mod Rows
+pub mod TooBig
 pub mod Answers
 pub mod Covering
 pub mod Exactly

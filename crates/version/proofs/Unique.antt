@@ -1,9 +1,10 @@
 -- Two results that meet one statement are the same.
 -- Assumes nothing.
+use Rattle.answers.specs.declared.Refusal.{Refusal}
+use Rattle.std.specs.Prelude.{Result}
 use mathlib.Core.Path.{◌≡◌, refl, sym, ◌∙◌}
 use mathlib.Core.List.{List}
 use Prim.Native.Nat.{ℕ}
-use Rattle.answers.specs.declared.Measured.{Measured}
 use Rattle.version_reading.specs.declared.text.PatternReading.{PatternReading}
 use Rattle.version_reading.specs.Reading.{Read}
 use Rattle.version_normal.specs.Normal.{NormalPrinted}
@@ -22,5 +23,5 @@ pub one_answer : {A : Type 0} {spec r q : A} → r ≡ spec → q ≡ spec → r
 one_answer p q = p ∙ sym q
 
 -- the answer and the buffer afterwards
-pub one_normal : {s old new new' : List ℕ} {r q : Measured} → NormalPrinted s old new r → NormalPrinted s old new' q → (r ≡ q) × (new ≡ new')
+pub one_normal : {s old new new' : List ℕ} {r q : Result ℕ Refusal} → NormalPrinted s old new r → NormalPrinted s old new' q → (r ≡ q) × (new ≡ new')
 one_normal p q = (p.answers ∙ sym q.answers, p.leaves ∙ sym q.leaves)

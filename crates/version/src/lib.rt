@@ -14,11 +14,11 @@ ghost use Rattle.version.specs.Reading.{TextRead};
 
 use crate::comparing::compare_texts;
 use crate::reading::{Reading, read_from};
-use answers::Measured;
-use version_order::compared::Compared;
+use answers::{Refusal, RefusedInput};
+use std::cmp::Ordering;
 use version_reading::plain::read_plain;
 use version_reading::text::{PatternReading, read_pattern};
-use version_word::packed::Worded;
+use version_word::packed::Word;
 
 // The fields of a version and its word, or its refusal.
 pub fn read(text: &[u8]) -> Reading
@@ -43,21 +43,21 @@ pub fn segment(text: &[u8], index: usize) -> &[u8]
 }
 
 // Writes the normal text of a version to the front of a buffer. A refused call leaves the buffer as it was, and success what lies after the text.
-pub fn normal(text: &[u8], buffer: &mut [u8]) -> Measured
+pub fn normal(text: &[u8], buffer: &mut [u8]) -> Result<usize, Refusal>
     ensures { NormalPrinted text.now buffer.old buffer.new result }
 {
     version_normal::text::print_normal(text, buffer)
 }
 
 // How the first version compares with the second, or which text is refused: the first is judged first.
-pub fn compare(first: &[u8], second: &[u8]) -> Compared
+pub fn compare(first: &[u8], second: &[u8]) -> Result<Ordering, RefusedInput>
     ensures { result ≡ compared first.now second.now }
 {
     compare_texts(first, second)
 }
 
 // The packed word of a small version; that a version has none is no refusal.
-pub fn word(text: &[u8]) -> Worded
+pub fn word(text: &[u8]) -> Result<Option<Word>, Refusal>
     ensures { result ≡ word_answer text.now }
 {
     version_word::text::word(text)

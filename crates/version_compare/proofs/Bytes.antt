@@ -1,55 +1,40 @@
--- The ways of `compare_lowered`: the bytes of two texts, in lower case, from a place on.
+-- The ways of `compare_lowered`: two texts in lower case, after the first n bytes of each.
 -- Assumes nothing.
-use mathlib.Core.Path.{◌≡◌, refl, ◌∙◌, ap}
-use mathlib.Core.List.{List, [], ◌∷◌}
-use Prim.Native.Nat.{ℕ, zero, suc, ◌+◌, ◌≤◌, ◌<◌, min, compare}
-use native.Mathlib.Omega.{arith}
-use lib.ListN.{length, get_or}
+use Rattle.std.proofs.Common.{◌≡◌, ℕ, ◌+◌, ◌-◌, ◌≤◌, ◌<◌, List, [], ◌∷◌, length, get_or, drop, min, arith, length-drop}
+use Prim.Native.Nat.{compare}
+use Rattle.std.proofs.lemmas.List.{drop_more}
 use Rattle.chars.specs.Case.{lower_of, lowered}
-use Rattle.order.specs.Ordering.{Ordering, eq, also}
+use Rattle.order.specs.Ordering.{Ordering, lt, eq, gt, also}
 use Rattle.order.specs.Compare.{list}
 use Rattle.order.specs.Answer.{name_of}
-use Rattle.order.specs.declared.Order.{Order}
+use Rattle.std.specs.declared.cmp.Ordering.{Ordering as Order}
 use Rattle.order.proofs.Ordering.{also_decided}
 use Rattle.order.proofs.Numbers.{compare_is, compare_means}
-use Rattle.version_reading.specs.Value.{listed}
-use Rattle.version_compare.proofs.Places.{on_from, at_start, at_place, at_end}
 
-lower_at : List ℕ → ℕ → ℕ
-lower_at s i = lower_of (get_or s i 0)
+-- how two texts compare in lower case
+abbrev pub texts : List ℕ → List ℕ → Ordering
+texts a b = list compare (lowered a) (lowered b)
 
-shifted : {A : Type 0} (f : ℕ → A) (i n : ℕ) → listed f (suc i) n ≡ listed (λ k. f (suc k)) i n
-unfolding listed
-shifted f i zero = refl
-shifted f i (suc n) = ap (λ (l : List _). f (suc i) ∷ l) (shifted f (suc i) n)
+-- no difference was found in the first n bytes
+module _ (a b : List ℕ) (n both : ℕ) (size : both ≡ min (length a) (length b)) (rest : texts (drop n a) (drop n b) ≡ texts a b) where
+  -- x and y are the bytes there, in lower case
+  module _ (x y : ℕ) (p : x ≡ lower_of (get_or a n 0)) (q : y ≡ lower_of (get_or b n 0)) (h : n < both) where
+    turn : also (compare x y) (texts (drop (n + 1) a) (drop (n + 1) b)) ≡ texts a b
+    unfolding lowered
+    turn = rw (p, q) (rw (drop_more a n 0 (omega arith), drop_more b n 0 (omega arith)) at rest)
 
-by_place : (s : List ℕ) → listed (lower_at s) 0 (length s) ≡ lowered s
-unfolding lower_at listed lowered
-by_place [] = refl
-by_place (b ∷ s) = ap (λ (l : List ℕ). lower_of b ∷ l) (shifted (lower_at (b ∷ s)) 0 (length s) ∙ by_place s)
+    pub bytes_differ : (r : Order) → r ≡ name_of (compare x y) → (x ≡ y → ⊥) → r ≡ name_of (texts a b)
+    bytes_differ r e f = rw (e, ← turn, also_decided (compare x y) _ (λ z. f (rw z at (compare_means x y))))
 
--- how the bytes of two texts compare from place i on
-pub bytes_from : List ℕ → List ℕ → ℕ → Ordering
-bytes_from a b i = on_from compare (lower_at a) (lower_at b) (length a) (length b) i
-
-module _ (a b : List ℕ) (n i : ℕ) (size : n ≡ min (length a) (length b)) (rest : bytes_from a b i ≡ bytes_from a b 0) where
-  whole : bytes_from a b 0 ≡ list compare (lowered a) (lowered b)
-  unfolding bytes_from
-  whole = at_start compare (lower_at a) (lower_at b) (length a) (length b) ∙ rw (by_place a, by_place b)
-
-  -- x and y are the bytes there
-  module _ (x y : ℕ) (p : x ≡ lower_of (get_or a i 0)) (q : y ≡ lower_of (get_or b i 0)) (h : i < n) where
-    turn : also (compare x y) (bytes_from a b (i + 1)) ≡ bytes_from a b 0
-    unfolding lower_at bytes_from
-    turn = rw (p, q) (at_place compare (lower_at a) (lower_at b) (length a) (length b) i rest (omega arith))
-
-    pub bytes_differ : (r : Order) → r ≡ name_of (compare x y) → (x ≡ y → ⊥) → r ≡ name_of (list compare (lowered a) (lowered b))
-    bytes_differ r e f = rw (e, ← whole, ← turn, also_decided (compare x y) _ (λ z. f (rw z at (compare_means x y))))
-
-    pub bytes_agree : x ≡ y → bytes_from a b (i + 1) ≡ bytes_from a b 0
+    pub bytes_agree : x ≡ y → texts (drop (n + 1) a) (drop (n + 1) b) ≡ texts a b
     bytes_agree e = rw (compare_is eq x y e) at turn
 
-  pub bytes_end : (r : Order) → r ≡ name_of (compare (length a) (length b)) → i ≤ n → n ≤ i →
-      r ≡ name_of (list compare (lowered a) (lowered b))
-  unfolding bytes_from
-  bytes_end r e h k = rw (← whole, ← at_end compare (lower_at a) (lower_at b) (length a) (length b) i rest (omega arith)) e
+  pub bytes_end : (r : Order) → r ≡ name_of (compare (length a) (length b)) → n ≤ both → both ≤ n → r ≡ name_of (texts a b)
+  unfolding lowered
+  bytes_end r e h k = rw (e, ← rest, go (drop n a) (drop n b) (length-drop n a) (length-drop n b))
+    where
+      go : (x y : List ℕ) → length x ≡ length a - n → length y ≡ length b - n → compare (length a) (length b) ≡ texts x y
+      go [] [] p q = compare_is eq (length a) (length b) (omega arith)
+      go [] (c ∷ y) p q = compare_is lt (length a) (length b) (omega arith)
+      go (c ∷ x) [] p q = compare_is gt (length a) (length b) (omega arith)
+      go (c ∷ x) (d ∷ y) p q = absurd (omega arith)

@@ -8,8 +8,8 @@ use Rattle.chars.specs.Case.{lowered}
 use Rattle.order.specs.Ordering.{Ordering, also}
 use Rattle.order.specs.Compare.{list}
 use Rattle.order.specs.Answer.{name_of}
-use Rattle.order.specs.declared.Order.{Order}
-use Rattle.order.specs.declared.Order.TheVariants.{Less, Equal, Greater}
+use Rattle.std.specs.declared.cmp.Ordering.{Ordering as Order}
+use Rattle.std.specs.declared.cmp.Ordering.TheVariants.{Less, Equal, Greater}
 use Rattle.order.proofs.Ordering.{also_eq}
 use Rattle.version_parts.specs.declared.fields.Local.{Local}
 use Rattle.version_parts.specs.declared.fields.Version.{Version}

@@ -7,8 +7,10 @@ use lib.ListN.{take, replicate}
 use Rattle.order.specs.Ordering.{also, flip}
 use Rattle.order.specs.Compare.{padded}
 use Rattle.order.specs.Answer.{name_of}
-use Rattle.order.specs.declared.Order.{Order}
-use Rattle.order.specs.declared.Order.TheVariants.{Equal}
+use Rattle.std.specs.declared.cmp.Ordering.{Ordering as Order}
+use Rattle.std.specs.declared.cmp.Ordering.TheVariants.{Less, Greater}
+use Rattle.std.specs.Ordering.{MatchOrdering, nat_cmp, ordering_then}
+use Rattle.order.proofs.Named.{number_named, then_is, four_named}
 use Rattle.order.proofs.Ordering.{also_eq}
 use Rattle.order.proofs.Padded.{padded_laws}
 use Rattle.order.proofs.Numbers.{number_laws}
@@ -16,10 +18,8 @@ use Rattle.version_reading.specs.declared.plain.Plain.{Plain}
 use Rattle.version_reading.specs.Plain.{Filled, FilledPlain, whole_version}
 use Rattle.version_reading.specs.Value.{value_of, listed}
 use Rattle.version_order.specs.Versions.{compare_release, compare_key, compare_public, compare_values}
-use Rattle.version_order.specs.declared.key.Key.{Key}
 use Rattle.version_order.specs.Key.{key_of}
 use Rattle.version_compare.specs.Plain.{compare_numbers, compare_plains}
-use Rattle.version_compare.proofs.Steps.{undecided}
 use Rattle.version_order.proofs.Orders.{label_blind, unlabelled}
 
 -- zeros at a release's end make no difference
@@ -81,8 +81,19 @@ plains_order s t v w f g =
     unlabelled (value_of s (whole_version v)) (value_of t (whole_version w)) refl refl
     ∙ sym (plains_compare v w f g ∙ label_blind s t (whole_version v) (whole_version w))
 
--- the ways of the functions: r is what the numbers say, a and b are the keys
-pub plains_by_key : (v w : Plain) (r q : Order) (a b : Key) → r ≡ name_of (compare_numbers v w) → r ≡ Equal →
-    a ≡ key_of v.pre v.post v.dev → b ≡ key_of w.pre w.post w.dev → q ≡ name_of (compare_key a b) → q ≡ name_of (compare_plains v w)
+-- r is what the numbers say, q what comes of it and of the keys
+pub plains_compared : (v w : Plain) (r q : Order) {P : Type 0} → r ≡ name_of (compare_numbers v w) →
+    (P → q ≡ name_of (compare_key (key_of v.pre v.post v.dev) (key_of w.pre w.post w.dev))) → MatchOrdering r (q ≡ Less) P (q ≡ Greater) →
+    q ≡ name_of (compare_plains v w)
 unfolding compare_plains
-plains_by_key v w r q a b e f g h k = undecided r q (compare_numbers v w) _ e f (rw (← g, ← h) k)
+plains_compared v w r q e f h = then_is (compare_numbers v w) (compare_key (key_of v.pre v.post v.dev) (key_of w.pre w.post w.dev)) r q e f h
+
+-- the four numbers as a tuple
+pub four_is : (v w : Plain) (r : Order) →
+    r ≡ ordering_then (ordering_then (ordering_then (nat_cmp v.first w.first) (nat_cmp v.second w.second)) (nat_cmp v.third w.third)) (nat_cmp v.fourth w.fourth) →
+    r ≡ name_of (compare_numbers v w)
+unfolding compare_numbers
+four_is v w r e =
+    e
+    ∙ rw (number_named v.first w.first, number_named v.second w.second, number_named v.third w.third, number_named v.fourth w.fourth)
+    (four_named (compare v.first w.first) (compare v.second w.second) (compare v.third w.third) (compare v.fourth w.fourth))

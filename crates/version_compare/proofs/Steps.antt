@@ -2,8 +2,8 @@
 -- Assumes nothing.
 use mathlib.Core.Path.{◌≡◌, refl}
 use Rattle.order.specs.Ordering.{Ordering, lt, eq, gt, also}
-use Rattle.order.specs.declared.Order.{Order}
-use Rattle.order.specs.declared.Order.TheVariants.{Equal}
+use Rattle.std.specs.declared.cmp.Ordering.{Ordering as Order}
+use Rattle.std.specs.declared.cmp.Ordering.TheVariants.{Equal}
 use Rattle.order.specs.Answer.{name_of}
 
 -- what is known in the `else` of `let Order::Equal = r`
@@ -22,6 +22,3 @@ pub same : (r : Order) (o : Ordering) → r ≡ name_of o → r ≡ Equal → o 
 same r lt e f = cc
 same r eq e f = refl
 same r gt e f = cc
-
-pub undecided : (r q : Order) (o p : Ordering) → r ≡ name_of o → r ≡ Equal → q ≡ name_of p → q ≡ name_of (also o p)
-undecided r q o p e f g = rw (same r o e f) g

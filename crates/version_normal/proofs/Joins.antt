@@ -1,65 +1,36 @@
--- Joined texts, as a loop writes them after the first: what is written, with what is still to come, is the whole.
+-- Joined texts, as a loop writes them after the first: what is written is as many of them as the loop has come by.
 -- Assumes nothing.
-use mathlib.Core.Path.{◌≡◌, refl, sym, ◌∙◌}
-use mathlib.Core.List.{List, [], ◌∷◌, ◌++◌, append-nil, append_assoc}
-use Prim.Native.Nat.{ℕ, zero, suc, ◌+◌, ◌-◌, ◌^◌, ◌≤◌, ◌<◌, min}
-use native.Mathlib.Numerals.{add-one}
-use native.Mathlib.Omega.{arith}
-use lib.ListN.{length, get_or}
+use Rattle.std.proofs.Common.{◌≡◌, refl, sym, ap, ◌∙◌, ℕ, zero, suc, ◌+◌, ◌-◌, ◌*◌, ◌^◌, ◌≤◌, ◌<◌, List, [], ◌∷◌, ◌++◌, append-nil, append_assoc, add-zero, add_comm, add-one, arith, length, get_or, take, drop, min}
+use Rattle.std.proofs.lemmas.List.{get_or-take, length-take-le, length-drop}
+use Rattle.std.proofs.lemmas.Grind.{get_or_after_one}
 use Rattle.decimal.specs.Put.{Wrote}
-use Rattle.decimal.proofs.Puts.{nothing, then, retext, same_size}
+use Rattle.decimal.proofs.Puts.{nothing, then, retext}
 use Rattle.decimal.specs.Digits.{decimal}
 use Rattle.version_parts.specs.declared.fields.Release.{Release}
 use Rattle.version_parts.specs.declared.fields.Local.{Local}
 use Rattle.version_reading.specs.Segment.{segment_bytes}
 use Rattle.version_normal.specs.Normal.{dotted, joined, release_text, segment_text, labelled, label_text}
 
--- from the first text's end on `written` was written, and the texts from number i on are to come
-pub record Joining (text : ℕ → List ℕ) (count : ℕ) (old : List ℕ) (at i : ℕ) (new : List ℕ) (next : ℕ) : Type 0 where
-  pub written : List ℕ
-  pub wrote : Wrote old at written new next
-  pub rest : (text 0 ++ written) ++ dotted text i (count - i) ≡ joined text count
+dotted_more : (text : ℕ → List ℕ) (i n : ℕ) → dotted text i (suc n) ≡ dotted text i n ++ (46 ∷ text (i + n))
+unfolding dotted
+dotted_more text i zero = rw (append-nil, add-zero)
+dotted_more text i (suc n) =
+    let place : suc i + n ≡ i + suc n = omega arith in
+    rw (dotted_more text (suc i) n, place, append_assoc)
 
-module _ (text : ℕ → List ℕ) (count : ℕ) where
-  whole : (n : ℕ) → (n ≡ 0 → ⊥) → text 0 ++ dotted text 1 (n - 1) ≡ joined text n
-  unfolding joined
-  whole zero h = absurd (h refl)
-  whole (suc n) h = let one : suc n - 1 ≡ n = omega arith in rw one
+joined_more : (text : ℕ → List ℕ) (n : ℕ) → 1 ≤ n → joined text (n + 1) ≡ joined text n ++ (46 ∷ text n)
+unfolding joined
+joined_more text zero h = absurd (omega arith)
+joined_more text (suc n) h = let place : 1 + n ≡ suc n = omega arith in rw (add-one (suc n), dotted_more text 1 n, place, append_assoc)
 
-  pub join_start : (a b : List ℕ) (from at : ℕ) → Wrote a from (text 0) b at → (count ≡ 0 → ⊥) → Joining text count b at 1 b at
-  join_start a b from at p h = record {
-    written = [];
-    wrote = nothing b at (omega (arith, p.size, same_size p)) (omega (arith, p.moved));
-    rest = rw append-nil (whole count h);
-  }
+module _ {a b : List ℕ} {i j : ℕ} (text : ℕ → List ℕ) where
+  pub join_start : Wrote a i (text 0) b j → Wrote a i (joined text 1) b j
+  unfolding joined dotted
+  join_start p = retext (sym (append-nil (text 0))) p
 
-  pub join_next : {old b c d : List ℕ} {at i j k l : ℕ} → Joining text count old at i b j → i < count →
-      Wrote b j (46 ∷ []) c k → Wrote c k (text i) d l → Joining text count old at (i + 1) d l
-  unfolding dotted
-  join_next {i = i} p h dot one =
-      let left : count - i ≡ suc (count - suc i) = omega arith in
-      let more : (text 0 ++ p.written) ++ (46 ∷ (text i ++ dotted text (suc i) (count - suc i))) ≡ joined text count = rw left at p.rest in
-      record {
-        written = p.written ++ ((46 ∷ []) ++ text i);
-        wrote = then p.wrote (then dot one);
-        rest = rw (← append_assoc, append_assoc, add-one i) more;
-      }
-
-  pub join_done : {first old new : List ℕ} {from at i next : ℕ} → Wrote first from (text 0) old at → Joining text count old at i new next → count ≤ i →
-      Wrote first from (joined text count) new next
-  unfolding dotted
-  join_done {i = i} start p h =
-      let none : count - i ≡ 0 = omega arith in
-      let all : (text 0 ++ p.written) ++ [] ≡ joined text count = rw none at p.rest in
-      retext (sym (append-nil _) ∙ all) (then start p.wrote)
-
-  pub join_size : (first old new t : List ℕ) (from at i next : ℕ) → Wrote first from t old at → Joining text count old at i new next → length new ≡ length first
-  join_size first old new t from at i next p q = same_size q.wrote ∙ same_size p
-
-  -- the same where something stands before the first text
-  pub join_size_behind : (buf first old new p t : List ℕ) (start from at i next : ℕ) → Wrote buf start p first from → Wrote first from t old at →
-      Joining text count old at i new next → length new ≡ length buf
-  join_size_behind buf first old new p t start from at i next h q j = join_size first old new t from at i next q j ∙ same_size h
+  pub join_next : {c d : List ℕ} {k l : ℕ} (n : ℕ) → Wrote a i (joined text n) b j → 1 ≤ n → Wrote b j (46 ∷ []) c k → Wrote c k (text n) d l →
+      Wrote a i (joined text (n + 1)) d l
+  join_next n p h dot one = retext (sym (joined_more text n h)) (then p (then dot one))
 
 -- the release, whose first `count` numbers are joined
 module _ (r : Release) (count : ℕ) (e : count ≡ min r.len 16) where
@@ -67,33 +38,65 @@ module _ (r : Release) (count : ℕ) (e : count ≡ min r.len 16) where
   unfolding release_text joined
   release_none l i h g z = rw (← e, z) (nothing l i h g)
 
-  pub release_done : (first old new : List ℕ) (from at i next : ℕ) → Wrote first from (decimal (get_or r.numbers 0 0)) old at →
-      Joining (λ k. decimal (get_or r.numbers k 0)) count old at i new next → count ≤ i → Wrote first from (release_text r) new next
-  unfolding release_text
-  release_done first old new from at i next p q h = rw (← e) (join_done (λ k. decimal (get_or r.numbers k 0)) count p q h)
+  -- number n + 1 is number n after the first
+  module _ (n : ℕ) (some : count ≡ 0 → ⊥) (size : length r.numbers ≡ 16) where
+    others : length (take (count - 1) (drop 1 r.numbers)) ≡ count - 1
+    others = length-take-le (count - 1) (drop 1 r.numbers) (omega (arith, length-drop 1 r.numbers))
 
--- the label, whose first `count` segments are joined after a plus; b is the bytes of a segment
-module _ (s : List ℕ) (l : Local) (count : ℕ) where
-  pub label_none : (buf : List ℕ) (i : ℕ) → length buf < 2 ^ 64 → i < 2 ^ 64 → count ≡ min l.len 16 → count ≡ 0 → Wrote buf i (label_text s l) buf i
-  unfolding label_text
-  label_none buf i h g e z = rw (← e, z) (nothing buf i h g)
+    pub release_next : {a b c d : List ℕ} {i j k l : ℕ} → Wrote a i (joined (λ k. decimal (get_or r.numbers k 0)) (n + 1)) b j →
+        n < length (take (count - 1) (drop 1 r.numbers)) → Wrote b j (46 ∷ []) c k →
+        Wrote c k (decimal (get_or (take (count - 1) (drop 1 r.numbers)) n 0)) d l →
+        Wrote a i (joined (λ k. decimal (get_or r.numbers k 0)) (n + 1 + 1)) d l
+    release_next p h dot one =
+        let few : n < count - 1 = omega (arith, others) in
+        let place : get_or (take (count - 1) (drop 1 r.numbers)) n 0 ≡ get_or r.numbers (n + 1) 0 =
+        get_or-take (count - 1) (drop 1 r.numbers) n 0 few ∙ get_or_after_one r.numbers n 0 ∙ rw (add_comm 1 n) in
+        join_next (λ k. decimal (get_or r.numbers k 0)) (n + 1) p (omega arith) dot (rw place at one)
 
-  pub label_start : (a b old : List ℕ) (from at : ℕ) → b ≡ segment_bytes s l 0 → Wrote a from (segment_text b) old at → (count ≡ 0 → ⊥) →
-      Joining (λ k. segment_text (segment_bytes s l k)) count old at 1 old at
-  label_start a b old from at e p h = join_start (λ k. segment_text (segment_bytes s l k)) count a old from at (rw e at p) h
+    -- the loop went over all the others
+    module _ (h : n ≤ length (take (count - 1) (drop 1 r.numbers))) where
+      pub release_near : (at j : ℕ) → j ≤ at + 21 * (n + 1) → j ≤ at + 336
+      release_near at j g = omega (arith, others)
 
-  pub label_next : (b old x y z : List ℕ) (at i j k m : ℕ) → Joining (λ k. segment_text (segment_bytes s l k)) count old at i x j → i < count →
-      Wrote x j (46 ∷ []) y k → b ≡ segment_bytes s l i → Wrote y k (segment_text b) z m → Joining (λ k. segment_text (segment_bytes s l k)) count old at (i + 1) z m
-  label_next b old x y z at i j k m q h dot e p = join_next (λ k. segment_text (segment_bytes s l k)) count q h dot (rw e at p)
+      pub release_done : (a b : List ℕ) (i j : ℕ) → Wrote a i (joined (λ k. decimal (get_or r.numbers k 0)) (n + 1)) b j →
+          length (take (count - 1) (drop 1 r.numbers)) ≤ n → Wrote a i (release_text r) b j
+      unfolding release_text
+      release_done a b i j p g =
+          let all : n + 1 ≡ count = omega (arith, others) in
+          rw (← e, ← all) p
 
-  pub label_done : (buf first b old new : List ℕ) (start from at i next : ℕ) → count ≡ min l.len 16 → (count ≡ 0 → ⊥) →
-      Wrote buf start (43 ∷ []) first from → b ≡ segment_bytes s l 0 → Wrote first from (segment_text b) old at →
-      Joining (λ k. segment_text (segment_bytes s l k)) count old at i new next → count ≤ i → Wrote buf start (label_text s l) new next
-  unfolding label_text
-  label_done buf first b old new start from at i next e some plus f p q h =
-      rw (← e) (go count some (then plus (join_done (λ k. segment_text (segment_bytes s l k)) count (rw f at p) q h)))
-    where
-      go : (n : ℕ) → (n ≡ 0 → ⊥) → Wrote buf start (43 ∷ joined (λ k. segment_text (segment_bytes s l k)) n) new next →
-          Wrote buf start (labelled (λ k. segment_text (segment_bytes s l k)) n) new next
-      go zero g w = absurd (g refl)
-      go (suc n) g w = w
+-- the label, whose first `count` segments are joined after a plus; x is the bytes of a segment
+module _ (s : List ℕ) (l : Local) where
+  pub label_start : {a b c x : List ℕ} {i j k : ℕ} → Wrote a i (43 ∷ []) b j → x ≡ segment_bytes s l 0 → Wrote b j (segment_text x) c k →
+      Wrote a i (43 ∷ joined (λ k. segment_text (segment_bytes s l k)) 1) c k
+  label_start plus f p = then plus (join_start (λ k. segment_text (segment_bytes s l k)) (rw f at p))
+
+  pub label_next : {a b c d x : List ℕ} {i j k m : ℕ} (n : ℕ) → Wrote a i (43 ∷ joined (λ k. segment_text (segment_bytes s l k)) n) b j → 1 ≤ n →
+      Wrote b j (46 ∷ []) c k → x ≡ segment_bytes s l n → Wrote c k (segment_text x) d m →
+      Wrote a i (43 ∷ joined (λ k. segment_text (segment_bytes s l k)) (n + 1)) d m
+  label_next n p h dot f one =
+      let more = joined_more (λ k. segment_text (segment_bytes s l k)) n h in
+      retext (ap (λ (x : List ℕ). 43 ∷ x) (sym more)) (then p (then dot (rw f at one)))
+
+  module _ (count : ℕ) (e : count ≡ min l.len 16) where
+    pub label_none : (a : List ℕ) (i : ℕ) → length a < 2 ^ 64 → i < 2 ^ 64 → count ≡ 0 → Wrote a i (label_text s l) a i
+    unfolding label_text
+    label_none a i h g z = rw (← e, z) (nothing a i h g)
+
+    -- the loop went over all the segments
+    module _ (n : ℕ) (some : count ≡ 0 → ⊥) (within : 1 ≤ count → n ≤ count) where
+      pub label_near : (at j : ℕ) → j ≤ at + 65556 * n → j ≤ at + 1048897
+      label_near at j g = let few : n ≤ count = within (omega arith) in omega arith
+
+      pub label_done : (a b : List ℕ) (i j : ℕ) → Wrote a i (43 ∷ joined (λ k. segment_text (segment_bytes s l k)) n) b j → count ≤ n →
+          Wrote a i (label_text s l) b j
+      unfolding label_text
+      label_done a b i j p h =
+          let few : n ≤ count = within (omega arith) in
+          let all : n ≡ count = omega arith in
+          rw (← e) (go count some (rw all at p))
+        where
+          go : (m : ℕ) → (m ≡ 0 → ⊥) → Wrote a i (43 ∷ joined (λ k. segment_text (segment_bytes s l k)) m) b j →
+              Wrote a i (labelled (λ k. segment_text (segment_bytes s l k)) m) b j
+          go zero none w = absurd (none refl)
+          go (suc m) some w = w

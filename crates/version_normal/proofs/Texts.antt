@@ -1,14 +1,12 @@
 -- What is written of each part, by what is there: the ways of the writers.
 -- Assumes nothing.
+use Rattle.std.specs.Prelude.{Option, None, Some, Result, Err}
 use mathlib.Core.Path.{◌≡◌, refl, sym, ap}
 use mathlib.Core.List.{List, [], ◌∷◌, ◌++◌}
 use Prim.Native.Nat.{ℕ, zero, suc, ◌+◌, ◌^◌, ◌≤◌, ◌<◌}
-use native.Mathlib.Numerals.{add-one}
 use lib.ListN.{length, get_or, take}
-use lib.Seq.{take-suc, take_all}
+use Rattle.std.proofs.lemmas.List.{take_more}
 use Rattle.answers.specs.declared.Refusal.{Refusal}
-use Rattle.answers.specs.declared.Measured.{Measured}
-use Rattle.answers.specs.declared.Measured.TheVariants.{Refused as NotWritten}
 use Rattle.answers.specs.Printed.{Printed}
 use Rattle.chars.specs.Text.{ascii}
 use Rattle.chars.specs.Case.{lower_of, lowered}
@@ -17,10 +15,6 @@ use Rattle.decimal.specs.Digits.{decimal}
 use Rattle.chars.proofs.Beginnings.{lowered_length}
 use Rattle.decimal.specs.Put.{farthest, onward, Wrote}
 use Rattle.decimal.proofs.Puts.{nothing, all_out, then, retext}
-use Rattle.version_parts.specs.declared.fields.Pre.{Pre}
-use Rattle.version_parts.specs.declared.fields.Pre.TheVariants.{Absent as NoPre, Is as IsPre}
-use Rattle.version_parts.specs.declared.fields.MaybeNumber.{MaybeNumber}
-use Rattle.version_parts.specs.declared.fields.MaybeNumber.TheVariants.{Absent as NoPart, Is as IsPart}
 use Rattle.version_reading.specs.declared.segment.Segment.{Segment}
 use Rattle.version_reading.specs.declared.segment.Segment.TheVariants.{Number, Text}
 use Rattle.version_reading.specs.Segment.{segment_of}
@@ -36,10 +30,10 @@ module _ (l : List ℕ) (i : ℕ) (h : length l < 2 ^ 64) (g : i < 2 ^ 64) where
   unfolding epoch_text
   epoch_none n e = rw e (nothing l i h g)
 
-  pub pre_none : (p : Pre) → p ≡ NoPre → Wrote l i (pre_text p) l i
+  pub pre_none : (p : Option (PreKind × ℕ)) → p ≡ None → Wrote l i (pre_text p) l i
   pre_none p e = rw e (nothing l i h g)
 
-  pub part_none : (name : List ℕ) (p : MaybeNumber) → p ≡ NoPart → Wrote l i (part_text name p) l i
+  pub part_none : (name : List ℕ) (p : Option ℕ) → p ≡ None → Wrote l i (part_text name p) l i
   part_none name p e = rw e (nothing l i h g)
 
 some_epoch : (n : ℕ) → (n ≡ 0 → ⊥) → epoch_text n ≡ decimal n ++ ascii "!"
@@ -52,10 +46,10 @@ module _ {a b c : List ℕ} {i j k : ℕ} where
   pub epoch_there : (n : ℕ) → (n ≡ 0 → ⊥) → Wrote a i (decimal n) b j → Wrote b j (33 ∷ []) c k → Wrote a i (epoch_text n) c k
   epoch_there n h p q = retext (sym (some_epoch n h)) (then p q)
 
-  pub pre_there : (x : Pre) (kind : PreKind) (n : ℕ) → x ≡ IsPre kind n → Wrote a i (kind_text kind) b j → Wrote b j (decimal n) c k → Wrote a i (pre_text x) c k
+  pub pre_there : (x : Option (PreKind × ℕ)) (kind : PreKind) (n : ℕ) → x ≡ Some (kind, n) → Wrote a i (kind_text kind) b j → Wrote b j (decimal n) c k → Wrote a i (pre_text x) c k
   pre_there x kind n e p q = rw e (then p q)
 
-  pub part_there : (name : List ℕ) (x : MaybeNumber) (n : ℕ) → x ≡ IsPart n → Wrote a i name b j → Wrote b j (decimal n) c k → Wrote a i (part_text name x) c k
+  pub part_there : (name : List ℕ) (x : Option ℕ) (n : ℕ) → x ≡ Some n → Wrote a i name b j → Wrote b j (decimal n) c k → Wrote a i (part_text name x) c k
   part_there name x n e p q = rw e (then p q)
 
 -- one writer, and the text that it writes
@@ -85,18 +79,14 @@ pub lower_next : (s old b c : List ℕ) (at i j k r : ℕ) → Wrote old at (low
     Wrote b j (r ∷ []) c k → Wrote old at (lowered (take (i + 1) s)) c k
 unfolding lowered
 lower_next s old b c at i j k r p h e q =
-    let one : take (i + 1) s ≡ take i s ++ (get_or s i 0 ∷ []) = rw (add-one i) (take-suc s i 0 h) in
-    let text : lowered (take i s) ++ (r ∷ []) ≡ lowered (take (i + 1) s) = rw (one, lowered_append, e) in
+    let text : lowered (take i s) ++ (r ∷ []) ≡ lowered (take (i + 1) s) = rw (take_more s i 0 h, lowered_append, e) in
     retext text (then p q)
-
-pub lower_done : (s old b : List ℕ) (at i j : ℕ) → Wrote old at (lowered (take i s)) b j → length s ≤ i → Wrote old at (lowered s) b j
-lower_done s old b at i j p h = rw (take_all i s h) at p
 
 -- the ways of `print_normal`: what was read of the text
 module _ (s : List ℕ) (read : VersionReading) (v : Verdict) (d : read ≡ version_of s) (e : v ≡ read.verdict) where
-  pub normal_refused : (buf : List ℕ) (x : Refusal) → v ≡ Refused x → NormalPrinted s buf buf (NotWritten x)
+  pub normal_refused : (buf : List ℕ) (x : Refusal) → v ≡ Refused x → NormalPrinted s buf buf (Err x)
   normal_refused buf x f = record { answers = rw (← d, ← e, f); leaves = rw (← d, ← e, f) }
 
-  pub normal_printed : (old new : List ℕ) (r : Measured) → v ≡ Accepted → Printed (version_text s read.version) old new r → NormalPrinted s old new r
+  pub normal_printed : (old new : List ℕ) (r : Result ℕ Refusal) → v ≡ Accepted → Printed (version_text s read.version) old new r → NormalPrinted s old new r
   unfolding normal_text
   normal_printed old new r f p = record { answers = rw (← d, ← e, f) p.answers; leaves = rw (← d, ← e, f) p.leaves }

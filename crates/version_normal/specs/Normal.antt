@@ -1,8 +1,7 @@
 -- The normal text of a version, part by part.
-use Rattle.std.specs.Prelude.{◌≡◌, List, [], ◌∷◌, ◌++◌, ℕ, zero, suc, min, get_or}
+use Rattle.answers.specs.declared.Refusal.{Refusal}
+use Rattle.std.specs.Prelude.{◌≡◌, List, [], ◌∷◌, ◌++◌, ℕ, zero, suc, min, get_or, Option, None, Some, Result, Err}
 use Prim.Native.Char.{code}
-use Rattle.answers.specs.declared.Measured.{Measured}
-use Rattle.answers.specs.declared.Measured.TheVariants.{Refused as NotWritten}
 use Rattle.answers.specs.Printed.{answer, filled}
 use Rattle.chars.specs.Text.{ascii}
 use Rattle.chars.specs.Case.{lowered}
@@ -10,10 +9,6 @@ use Rattle.chars.specs.declared.spelling.PreKind.{PreKind}
 use Rattle.chars.specs.declared.spelling.PreKind.TheVariants.{Alpha, Beta, Rc}
 use Rattle.decimal.specs.Digits.{decimal}
 use Rattle.version_parts.specs.declared.fields.Release.{Release}
-use Rattle.version_parts.specs.declared.fields.Pre.{Pre}
-use Rattle.version_parts.specs.declared.fields.Pre.TheVariants.{Absent as NoPre, Is as IsPre}
-use Rattle.version_parts.specs.declared.fields.MaybeNumber.{MaybeNumber}
-use Rattle.version_parts.specs.declared.fields.MaybeNumber.TheVariants.{Absent as NoPart, Is as IsPart}
 use Rattle.version_parts.specs.declared.fields.Local.{Local}
 use Rattle.version_parts.specs.declared.fields.Version.{Version}
 use Rattle.version_reading.specs.declared.segment.Segment.{Segment}
@@ -47,13 +42,13 @@ kind_text Alpha = ascii "a"
 kind_text Beta = ascii "b"
 kind_text Rc = ascii "rc"
 
-abbrev pub pre_text : Pre → List ℕ
-pre_text NoPre = []
-pre_text (IsPre kind n) = kind_text kind ++ decimal n
+abbrev pub pre_text : Option (PreKind × ℕ) → List ℕ
+pre_text None = []
+pre_text (Some (kind, n)) = kind_text kind ++ decimal n
 
-abbrev pub part_text : List ℕ → MaybeNumber → List ℕ
-part_text name NoPart = []
-part_text name (IsPart n) = name ++ decimal n
+abbrev pub part_text : List ℕ → Option ℕ → List ℕ
+part_text name None = []
+part_text name (Some n) = name ++ decimal n
 
 -- a number without zeros in front, or text in lower case
 abbrev pub segment_as : List ℕ → Segment → List ℕ
@@ -85,14 +80,14 @@ unfoldable pub normal_text : List ℕ → List ℕ
 normal_text s = version_text s (version_of s).version
 
 -- the text's own refusal comes first, and then leaves the buffer as it was
-abbrev pub answer_to : Verdict → List ℕ → List ℕ → Measured
+abbrev pub answer_to : Verdict → List ℕ → List ℕ → Result ℕ Refusal
 answer_to Accepted text buf = answer text buf
-answer_to (Refused refusal) text buf = NotWritten refusal
+answer_to (Refused refusal) text buf = Err refusal
 
 abbrev pub filled_to : Verdict → List ℕ → List ℕ → List ℕ
 filled_to Accepted text buf = filled text buf
 filled_to (Refused refusal) text buf = buf
 
-pub record NormalPrinted (s old new : List ℕ) (r : Measured) : Type 0 where
+pub record NormalPrinted (s old new : List ℕ) (r : Result ℕ Refusal) : Type 0 where
   pub answers : r ≡ answer_to (version_of s).verdict (normal_text s) old
   pub leaves : new ≡ filled_to (version_of s).verdict (normal_text s) old

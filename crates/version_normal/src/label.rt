@@ -14,10 +14,8 @@ fn store_lower(buf: &mut [u8], at: usize, s: &[u8]) -> usize
     ensures { Put (length s.now) buf.old at (lowered s.now) buf.new result }
 {
     let mut next = at;
-    let mut i = 0;
-    while i < s.len() {
-        next = put_byte(buf, next, lower(s[i]));
-        i += 1;
+    for byte in s {
+        next = put_byte(buf, next, lower(*byte));
     }
     next
 }
@@ -52,11 +50,9 @@ pub fn put_label(buf: &mut [u8], at: usize, s: &[u8], local: Local) -> usize
     }
     let first = put_byte(buf, at, b'+');
     let mut next = put_segment(buf, first, segment_bytes(s, local, 0));
-    let mut i = 1;
-    while i < count {
+    for i in 1..count {
         let dot = put_byte(buf, next, b'.');
         next = put_segment(buf, dot, segment_bytes(s, local, i));
-        i += 1;
     }
     next
 }

@@ -5,13 +5,13 @@ ghost use Rattle.version_normal.specs.Normal.{epoch_text, release_text, kind_tex
 
 use chars::spelling::PreKind;
 use decimal::put::{put_byte, put_bytes, put_number};
-use version_parts::fields::{MaybeNumber, Pre, Release};
+use version_parts::fields::{Pre, Release};
 
 // How many elements of an array of 16 count.
 pub fn held(len: usize) -> usize
     ensures { result ≡ min len 16 }
 {
-    if len < 16 { len } else { 16 }
+    len.min(16)
 }
 
 // The epoch and its mark, unless it is 0.
@@ -35,19 +35,17 @@ pub fn put_release(buf: &mut [u8], at: usize, release: Release) -> usize
         return at;
     }
     let mut next = put_number(buf, at, numbers[0]);
-    let mut i = 1;
-    while i < count {
+    for number in &numbers[1..count] {
         let dot = put_byte(buf, next, b'.');
-        next = put_number(buf, dot, numbers[i]);
-        i += 1;
+        next = put_number(buf, dot, *number);
     }
     next
 }
 
-pub fn put_pre(buf: &mut [u8], at: usize, pre: Pre) -> usize
+pub fn put_pre(buf: &mut [u8], at: usize, pre: Option<Pre>) -> usize
     ensures { Put 22 buf.old at (pre_text pre) buf.new result }
 {
-    let Pre::Is(kind, n) = pre else {
+    let Some((kind, n)) = pre else {
         return at;
     };
     let digits = put_kind(buf, at, kind);
@@ -65,10 +63,10 @@ fn put_kind(buf: &mut [u8], at: usize, kind: PreKind) -> usize
 }
 
 // A part's name and number, where it is there.
-pub fn put_part(buf: &mut [u8], at: usize, name: &[u8], part: MaybeNumber) -> usize
+pub fn put_part(buf: &mut [u8], at: usize, name: &[u8], part: Option<u64>) -> usize
     ensures { Put (length name.now + 20) buf.old at (part_text name.now part) buf.new result }
 {
-    let MaybeNumber::Is(n) = part else {
+    let Some(n) = part else {
         return at;
     };
     let digits = put_bytes(buf, at, name);

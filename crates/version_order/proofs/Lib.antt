@@ -1,2 +1,3 @@
 pub mod Anchors
 pub mod Orders
+pub mod Keys

@@ -15,7 +15,6 @@ use Rattle.order.proofs.Missing.{option_laws}
 use Rattle.order.proofs.Padded.{padded_laws}
 use Rattle.version_parts.specs.declared.fields.Version.{Version}
 use Rattle.version_reading.specs.Value.{Value, without_label, value_of}
-use Rattle.version_order.specs.Key.{post_option}
 use Rattle.version_order.specs.Versions.{compare_release, compare_key, key, compare_public, number_in, text_in, compare_label, compare_values}
 
 release_laws : Laws compare_release
@@ -27,7 +26,7 @@ unfolding compare_key
 key_laws =
     lex_laws (by_laws (λ k. k.kind) number_laws)
     (lex_laws (by_laws (λ k. k.pre) number_laws)
-    (lex_laws (by_laws (λ k. post_option k.post) (option_laws number_laws)) (by_laws (λ k. k.dev) number_laws)))
+    (lex_laws (by_laws (λ k. k.post) (option_laws number_laws)) (by_laws (λ k. k.dev) number_laws)))
 
 label_laws : Laws compare_label
 unfolding compare_label

@@ -1,11 +1,10 @@
 -- The order of versions. What the local label decides stands apart: `compare_public` is the order of versions without it.
-use Rattle.std.specs.Prelude.{List, []}
-use Rattle.std.proofs.Math.Option.{Option, none, some}
+use Rattle.std.specs.Prelude.{List, [], Option, None, Some}
 use Prim.Native.Nat.{ℕ, compare}
 use Rattle.order.specs.Compare.{Comparison, by, lex, list, padded, option}
 use Rattle.version_reading.specs.Value.{LocalSegment, number, text, Value}
 use Rattle.version_order.specs.declared.key.Key.{Key}
-use Rattle.version_order.specs.Key.{post_option, key_of}
+use Rattle.version_order.specs.Key.{key_of}
 
 -- epoch, then release, the shorter padded with zeros
 unfoldable pub compare_release : Comparison Value
@@ -16,7 +15,7 @@ unfoldable pub compare_key : Comparison Key
 compare_key =
     lex (by (λ k. k.kind) compare)
     (lex (by (λ k. k.pre) compare)
-    (lex (by (λ k. post_option k.post) (option compare))
+    (lex (by (λ k. k.post) (option compare))
     (by (λ k. k.dev) compare)))
 
 abbrev pub key : Value → Key
@@ -27,8 +26,8 @@ compare_public = lex compare_release (by key compare_key)
 
 -- a segment's number, and its text
 abbrev pub number_in : LocalSegment → Option ℕ
-number_in (number n) = some n
-number_in (text bytes) = none
+number_in (number n) = Some n
+number_in (text bytes) = None
 
 abbrev pub text_in : LocalSegment → List ℕ
 text_in (number n) = []

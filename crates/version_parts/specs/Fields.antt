@@ -1,10 +1,8 @@
 -- The fields while they are read: nothing yet, and one more number or segment; and the blank version.
-use Rattle.std.specs.Prelude.{◌≡◌, ℕ, ◌+◌, set, replicate}
+use Rattle.std.specs.Prelude.{◌≡◌, ℕ, ◌+◌, set, replicate, None}
 use Rattle.version_parts.specs.declared.fields.Release.{Release}
 use Rattle.version_parts.specs.declared.fields.Span.{Span}
 use Rattle.version_parts.specs.declared.fields.Local.{Local}
-use Rattle.version_parts.specs.declared.fields.Pre.TheVariants.{Absent as NoPre}
-use Rattle.version_parts.specs.declared.fields.MaybeNumber.TheVariants.{Absent as NoPart}
 use Rattle.version_parts.specs.declared.fields.Version.{Version}
 
 abbrev pub no_release : Release
@@ -26,7 +24,7 @@ abbrev pub pushed_span : Local → Span → Local
 pushed_span l g = record { spans = set l.spans l.len g; len = l.len + 1 }
 
 abbrev pub no_version : Version
-no_version = record { epoch = 0; release = no_release; pre = NoPre; post = NoPart; dev = NoPart; local = no_local }
+no_version = record { epoch = 0; release = no_release; pre = None; post = None; dev = None; local = no_local }
 
 -- r is what the rule gives as `spec`; its length stands apart, where arithmetic can see it
 pub record Numbers (spec r : Release) : Type 0 where

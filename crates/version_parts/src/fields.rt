@@ -11,17 +11,8 @@ pub struct Release {
     pub len: usize,
 }
 
-#[derive(Clone, Copy)]
-pub enum Pre {
-    Absent,
-    Is(PreKind, u64),
-}
-
-#[derive(Clone, Copy)]
-pub enum MaybeNumber {
-    Absent,
-    Is(u64),
-}
+// A pre-release: its kind and its number.
+pub type Pre = (PreKind, u64);
 
 // A place in the text: it has at most 1,024 bytes, so that 16 bits do and the array stays small.
 #[derive(Clone, Copy)]
@@ -41,9 +32,9 @@ pub struct Local {
 pub struct Version {
     pub epoch: u64,
     pub release: Release,
-    pub pre: Pre,
-    pub post: MaybeNumber,
-    pub dev: MaybeNumber,
+    pub pre: Option<Pre>,
+    pub post: Option<u64>,
+    pub dev: Option<u64>,
     pub local: Local,
 }
 
@@ -98,9 +89,9 @@ impl Version {
         Version {
             epoch: 0,
             release,
-            pre: Pre::Absent,
-            post: MaybeNumber::Absent,
-            dev: MaybeNumber::Absent,
+            pre: None,
+            post: None,
+            dev: None,
             local,
         }
     }

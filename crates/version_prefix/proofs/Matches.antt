@@ -1,9 +1,10 @@
 -- The prefix law: `==V.*` matches exactly the versions from V.dev0 up to, and not with, the next prefix's .dev0.
 -- Assumes nothing.
+use Rattle.chars.specs.declared.spelling.PreKind.{PreKind}
+use Rattle.std.specs.Prelude.{None, Some, Option}
 use mathlib.Core.Path.{◌≡◌, refl, ◌∙◌, ap}
 use mathlib.Core.Bool.{Bool, true, false, not, ◌&&◌, cond}
 use mathlib.Core.List.{List, [], ◌∷◌}
-use mathlib.Core.Option.{Option, none, some}
 use Prim.Native.Nat.{ℕ, suc, compare}
 use lib.Dec.{eqb, leb-zero}
 use lib.ListN.{take}
@@ -11,13 +12,9 @@ use Rattle.chars.specs.declared.spelling.PreKind.TheVariants.{Alpha, Beta, Rc}
 use Rattle.order.specs.Ordering.{Ordering, is_le, is_gt, also}
 use Rattle.order.specs.Compare.{padded, option}
 use Rattle.order.proofs.Ordering.{also_at_most}
-use Rattle.version_parts.specs.declared.fields.Pre.{Pre}
-use Rattle.version_parts.specs.declared.fields.Pre.TheVariants.{Absent as NoPre, Is as IsPre}
-use Rattle.version_parts.specs.declared.fields.MaybeNumber.{MaybeNumber}
-use Rattle.version_parts.specs.declared.fields.MaybeNumber.TheVariants.{Absent as NoPart, Is as IsPart}
 use Rattle.version_reading.specs.Value.{Value}
 use Rattle.decimal.specs.Parse.{largest}
-use Rattle.version_order.specs.Key.{kind_of, pre_number, post_option, dev_number}
+use Rattle.version_order.specs.Key.{kind_of, pre_number, dev_number}
 use Rattle.version_order.specs.Versions.{compare_release, compare_key, key, compare_public}
 use Rattle.version_prefix.specs.Prefix.{
   prefix_matches,
@@ -43,17 +40,17 @@ numbers v = v.epoch ∷ v.release
 at_most_both : (o p : Ordering) → is_le o ≡ true → is_le p ≡ true → is_le (also o p) ≡ true
 at_most_both o p e f = also_at_most o p f ∙ e
 
-kind_least : (pre : Pre) (post dev : MaybeNumber) → is_le (compare 1 (kind_of pre post dev)) ≡ true
-kind_least (IsPre Alpha n) post dev = refl
-kind_least (IsPre Beta n) post dev = refl
-kind_least (IsPre Rc n) post dev = refl
-kind_least NoPre (IsPart n) dev = refl
-kind_least NoPre NoPart (IsPart n) = refl
-kind_least NoPre NoPart NoPart = refl
+kind_least : (pre : Option (PreKind × ℕ)) (post dev : Option ℕ) → is_le (compare 1 (kind_of pre post dev)) ≡ true
+kind_least (Some (Alpha, n)) post dev = refl
+kind_least (Some (Beta, n)) post dev = refl
+kind_least (Some (Rc, n)) post dev = refl
+kind_least None (Some n) dev = refl
+kind_least None None (Some n) = refl
+kind_least None None None = refl
 
-post_least : (post : MaybeNumber) → is_le (option compare none (post_option post)) ≡ true
-post_least NoPart = refl
-post_least (IsPart n) = refl
+post_least : (post : Option ℕ) → is_le (option compare None post) ≡ true
+post_least None = refl
+post_least (Some n) = refl
 
 -- dev 0 alone is the least key
 key_least : (e : ℕ) (r : List ℕ) (w : Value) → is_le (compare_key (key (dev_zero e r)) (key w)) ≡ true
@@ -61,7 +58,7 @@ unfolding compare_key
 key_least e r w =
     at_most_both (compare 1 (kind_of w.pre w.post w.dev)) _ (kind_least w.pre w.post w.dev)
     (at_most_both (compare 0 (pre_number w.pre)) _ (leb-zero (pre_number w.pre))
-    (at_most_both (option compare none (post_option w.post)) _ (post_least w.post)
+    (at_most_both (option compare None w.post) _ (post_least w.post)
     (leb-zero (dev_number w.pre w.post w.dev))))
 
 dev_zero_least : (e : ℕ) (r : List ℕ) (w : Value) → is_le (compare_public (dev_zero e r) w) ≡ is_le (padded compare 0 (e ∷ r) (numbers w))
@@ -76,11 +73,11 @@ zero_alone (x ∷ l) = refl
 
 -- the end of what begins with the epoch e, by what the release numbers have become
 carried_above : (e : ℕ) (n : Option (List ℕ)) (w : Value) → ends_above (zeroed (carried e n)) w ≡ above (raised e n) (numbers w)
-carried_above e (some q) w = ap not (dev_zero_least e q w)
-carried_above e none w = go (eqb e largest)
+carried_above e (Some q) w = ap not (dev_zero_least e q w)
+carried_above e None w = go (eqb e largest)
   where
-    go : (b : Bool) → ends_above (zeroed (cond b none (some (record { epoch = suc e; release = 0 ∷ [] })))) w ≡
-        above (cond b none (some (suc e ∷ []))) (numbers w)
+    go : (b : Bool) → ends_above (zeroed (cond b None (Some (record { epoch = suc e; release = 0 ∷ [] })))) w ≡
+        above (cond b None (Some (suc e ∷ []))) (numbers w)
     go true = refl
     go false =
         ap not (dev_zero_least (suc e) (0 ∷ []) w)

@@ -1,9 +1,9 @@
 -- The prefix law on lists of numbers: those that begin with p are those from p up to, and not with, the next list of p's kind.
 -- Assumes nothing.
+use Rattle.std.specs.Prelude.{Option, None, Some}
 use mathlib.Core.Path.{◌≡◌, refl, ◌∙◌, ap}
 use mathlib.Core.Bool.{Bool, true, false, not, ◌&&◌, cond}
 use mathlib.Core.List.{List, [], ◌∷◌, tail}
-use mathlib.Core.Option.{Option, none, some}
 use Prim.Native.Nat.{ℕ, zero, suc, ◌≤◌, ◌<◌, compare}
 use native.Mathlib.Omega.{arith}
 use lib.Dec.{eqb, leb-zero}
@@ -19,8 +19,8 @@ use Rattle.version_prefix.specs.Prefix.{begins, raised, next_release, Fit}
 
 -- the list q, where there is one, is above l
 abbrev pub above : Option (List ℕ) → List ℕ → Bool
-above none l = true
-above (some q) l = is_gt (padded compare 0 q l)
+above None l = true
+above (Some q) l = is_gt (padded compare 0 q l)
 
 -- no number at all is at most any list
 none_least : (l : List ℕ) → is_le (padded compare 0 [] l) ≡ true
@@ -42,20 +42,20 @@ module _ (x : ℕ) (l : List ℕ) where
 
   -- the same number: the numbers after decide
   pub kept : (n : Option (List ℕ)) → compare x (head_or 0 l) ≡ eq → above (raised x n) l ≡ above n (tail l)
-  kept (some q) e = rw (step q, e)
-  kept none e = go (eqb x largest)
+  kept (Some q) e = rw (step q, e)
+  kept None e = go (eqb x largest)
     where
       more : x ≡ head_or 0 l
       more = rw e at (compare_means x (head_or 0 l))
 
-      go : (b : Bool) → above (cond b none (some (suc x ∷ []))) l ≡ true
+      go : (b : Bool) → above (cond b None (Some (suc x ∷ []))) l ≡ true
       go true = refl
       go false = rw (padded_step number_laws 0 (suc x ∷ []) l, compare_is gt (suc x) (head_or 0 l) (omega (arith, more)))
 
   -- a smaller number: all that begins with it lies below l
   pub passed : (n : Option (List ℕ)) → head_or 0 l ≤ largest → compare x (head_or 0 l) ≡ lt → above (raised x n) l ≡ false
-  passed (some q) h e = rw (step q, e)
-  passed none h e = go (eqb x largest) refl
+  passed (Some q) h e = rw (step q, e)
+  passed None h e = go (eqb x largest) refl
     where
       less : x < head_or 0 l
       less = rw e at (compare_means x (head_or 0 l))
@@ -65,7 +65,7 @@ module _ (x : ℕ) (l : List ℕ) where
       next eq f = ap not (none_least (tail l))
       next gt f = let k : head_or 0 l < suc x = rw f at (compare_means (suc x) (head_or 0 l)) in absurd (omega (arith, less))
 
-      go : (b : Bool) → eqb x largest ≡ b → above (cond b none (some (suc x ∷ []))) l ≡ false
+      go : (b : Bool) → eqb x largest ≡ b → above (cond b None (Some (suc x ∷ []))) l ≡ false
       go true f = let k : x ≡ largest = eqb-true x largest f in absurd (omega (arith, less))
       go false f = rw (padded_step number_laws 0 (suc x ∷ []) l) (next (compare (suc x) (head_or 0 l)) refl)
 

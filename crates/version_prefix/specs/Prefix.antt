@@ -1,12 +1,9 @@
 -- What `==V.*` matches, and the end of what it matches: the next prefix.
-use Rattle.std.specs.Prelude.{Bool, true, ◌&&◌, cond, ℕ, suc, ◌-◌, ◌≤◌, eqb, length, take}
+use Rattle.std.specs.Prelude.{Bool, true, ◌&&◌, cond, ℕ, suc, ◌-◌, ◌≤◌, eqb, length, take, None, Some, Option}
 use mathlib.Core.List.{List, [], ◌∷◌, tail}
-use Rattle.std.proofs.Math.Option.{Option, none, some}
 use Rattle.order.specs.All.{All}
 use Rattle.order.specs.Ordering.{is_gt}
 use Rattle.order.specs.Compare.{head_or}
-use Rattle.version_parts.specs.declared.fields.Pre.TheVariants.{Absent as NoPre}
-use Rattle.version_parts.specs.declared.fields.MaybeNumber.TheVariants.{Absent as NoPart, Is as IsPart}
 use Rattle.version_reading.specs.Value.{Value}
 use Rattle.decimal.specs.Parse.{largest}
 use Rattle.version_order.specs.Versions.{compare_public}
@@ -36,12 +33,12 @@ shorter v = cut_to (length v.release - 1) v
 
 -- the number x, and what the numbers after it have become; with all of them dropped, it is the last
 abbrev pub raised : ℕ → Option (List ℕ) → Option (List ℕ)
-raised x (some rest) = some (x ∷ rest)
-raised x none = cond (eqb x largest) none (some (suc x ∷ []))
+raised x (Some rest) = Some (x ∷ rest)
+raised x None = cond (eqb x largest) None (Some (suc x ∷ []))
 
 -- add 1 to the last number; if that was the largest, drop it and go on with the one before
 abbrev pub next_release : List ℕ → Option (List ℕ)
-next_release [] = none
+next_release [] = None
 next_release (x ∷ rest) = raised x (next_release rest)
 
 pub record Prefix : Type 0 where
@@ -50,8 +47,8 @@ pub record Prefix : Type 0 where
 
 -- with no number left, epoch + 1 and release 0; with the largest epoch, none
 abbrev pub carried : ℕ → Option (List ℕ) → Option Prefix
-carried epoch (some release) = some (record { epoch = epoch; release = release })
-carried epoch none = cond (eqb epoch largest) none (some (record { epoch = suc epoch; release = 0 ∷ [] }))
+carried epoch (Some release) = Some (record { epoch = epoch; release = release })
+carried epoch None = cond (eqb epoch largest) None (Some (record { epoch = suc epoch; release = 0 ∷ [] }))
 
 unfoldable pub next_prefix : ℕ → List ℕ → Option Prefix
 next_prefix epoch release = carried epoch (next_release release)
@@ -61,9 +58,9 @@ abbrev pub dev_zero : ℕ → List ℕ → Value
 dev_zero epoch release = record {
   epoch = epoch;
   release = release;
-  pre = NoPre;
-  post = NoPart;
-  dev = IsPart 0;
+  pre = None;
+  post = None;
+  dev = Some 0;
   label = [];
 }
 
@@ -72,16 +69,16 @@ abbrev pub prefix_start : Value → Value
 prefix_start v = dev_zero v.epoch v.release
 
 abbrev pub zeroed : Option Prefix → Option Value
-zeroed none = none
-zeroed (some p) = some (dev_zero p.epoch p.release)
+zeroed None = None
+zeroed (Some p) = Some (dev_zero p.epoch p.release)
 
 abbrev pub prefix_end : Value → Option Value
 prefix_end v = zeroed (next_prefix v.epoch v.release)
 
 -- the end, where there is one, is above the version
 abbrev pub ends_above : Option Value → Value → Bool
-ends_above none w = true
-ends_above (some end) w = is_gt (compare_public end w)
+ends_above None w = true
+ends_above (Some end) w = is_gt (compare_public end w)
 
 -- numbers that a version can hold: 64 bits do
 abbrev pub Fit : List ℕ → Type 0

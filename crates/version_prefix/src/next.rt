@@ -4,15 +4,7 @@ ghost use Rattle.decimal.specs.Parse.{largest};
 ghost use Rattle.version_prefix.specs.Next.{dev_zero_fields, start_fields, ending_in, next_epoch, next_fields};
 
 use decimal::parse::LARGEST;
-use order::smaller;
-use version_parts::fields::{Local, MaybeNumber, Pre, Release, Version};
-
-// The version before which a match ends. Where there is no end, the version is the blank one.
-#[derive(Clone, Copy)]
-pub struct Next {
-    pub exists: bool,
-    pub version: Version,
-}
+use version_parts::fields::{Local, Release, Version};
 
 // An epoch and a release with `.dev0`.
 fn dev_zero(epoch: u64, release: Release) -> Version
@@ -22,9 +14,9 @@ fn dev_zero(epoch: u64, release: Release) -> Version
     Version {
         epoch,
         release,
-        pre: Pre::Absent,
-        post: MaybeNumber::Absent,
-        dev: MaybeNumber::Is(0),
+        pre: None,
+        post: None,
+        dev: Some(0),
         local,
     }
 }
@@ -33,26 +25,17 @@ fn dev_zero(epoch: u64, release: Release) -> Version
 pub fn match_start(v: Version) -> Version
     ensures { result ≡ start_fields v }
 {
-    let release = v.release;
-    dev_zero(v.epoch, release)
+    dev_zero(v.epoch, v.release)
 }
 
 // With no number left the epoch is raised, unless it is the largest.
-fn next_epoch(epoch: u64) -> Next
+fn next_epoch(epoch: u64) -> Option<Version>
     ensures { result ≡ next_epoch epoch }
 {
     if epoch == LARGEST {
-        let version = Version::none();
-        return Next {
-            exists: false,
-            version,
-        };
+        return None;
     }
-    let release = Release::only(0);
-    Next {
-        exists: true,
-        version: dev_zero(epoch + 1, release),
-    }
+    Some(dev_zero(epoch + 1, Release::only(0)))
 }
 
 // The release up to its number i, in whose place stands what follows n.
@@ -65,24 +48,17 @@ fn raise(mut release: Release, i: usize, n: u64) -> Release
     release
 }
 
-// Where it ends, with the first `count` numbers of v for a prefix. The largest numbers at its end are dropped.
-pub fn match_end(v: Version, count: usize) -> Next
+// The version before which it ends, if it ends, with the first `count` numbers of v for a prefix. The largest numbers at its end are dropped.
+pub fn match_end(v: Version, count: usize) -> Option<Version>
     ensures { result ≡ next_fields v.epoch v.release (min count 16) }
 {
     let release = v.release;
     let numbers = release.numbers;
-    let mut left = smaller(count, 16);
-    while 0 < left {
-        let last = left - 1;
+    for last in (0..count.min(16)).rev() {
         let number = numbers[last];
         if number != LARGEST {
-            let raised = raise(release, last, number);
-            return Next {
-                exists: true,
-                version: dev_zero(v.epoch, raised),
-            };
+            return Some(dev_zero(v.epoch, raise(release, last, number)));
         }
-        left = last;
     }
     next_epoch(v.epoch)
 }

@@ -1,5 +1,6 @@
 -- Worked points of what the quick way finds, by computation from the bytes. They anchor the definitions against changes that would keep the
 -- shape of every proof. Assumes nothing.
+use Rattle.std.specs.Prelude.{is_some}
 use mathlib.Core.Path.{◌≡◌, refl}
 use mathlib.Core.Bool.{Bool, true, false}
 use mathlib.Core.List.{List, [], ◌∷◌, map}
@@ -15,7 +16,7 @@ use Rattle.version_parts.specs.Suffix.{number_or_zero, pre_at, spelled_post, pos
 use Rattle.version_reading.specs.Plain.{after_fourth, after_third, after_second, after_first, plain_head_of, plain_at, plain_of}
 
 abbrev found : List (List ℕ) → List Bool
-found texts = map (λ s. (plain_of s).found) texts
+found texts = map (λ s. is_some (plain_of s)) texts
 
 -- plain versions
 pub worked : found (ascii "1" ∷ ascii "1.2.3.4" ∷ ascii "1.0rc2" ∷ ascii "1-3.dev0" ∷ []) ≡ replicate 4 true

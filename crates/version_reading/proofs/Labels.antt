@@ -12,7 +12,7 @@ use Rattle.chars.proofs.Parts.{take_rest}
 use Rattle.version_parts.specs.declared.fields.Local.{Local}
 use Rattle.version_parts.specs.Fields.{no_local, pushed_span}
 use Rattle.version_parts.specs.Places.{separator_end}
-use Rattle.version_reading.specs.declared.label.LabelRead.{LabelRead}
+use Rattle.version_parts.specs.Suffix.{Step}
 use Rattle.version_reading.specs.Label.{word_end, spanning, label_read, label_refused, segments_from, label_at}
 
 pub word_is : (s : List ℕ) (at r : ℕ) → r ≡ front (between digit letter) (take (length s - at) (drop at s)) → at + r ≡ word_end s at
@@ -24,9 +24,9 @@ unfolding label_at
 label_none s at k local e f g = no_is _ _ e f (rw g)
 
 -- one turn: the segments so far at `at`, the end of the word there, and the answer t of the whole
-module _ (s : List ℕ) (local : Local) (at end : ℕ) (t : LabelRead)
+module _ (s : List ℕ) (local : Local) (at end : ℕ) (t : Step Local)
     (same : segments_from (16 - local.len) s local at ≡ t) (e : end ≡ word_end s at) where
-  pub segment_empty : (q : LabelRead) → end ≡ at → q ≡ label_refused 4 at → q ≡ t
+  pub segment_empty : (q : Step Local) → end ≡ at → q ≡ label_refused 4 at → q ≡ t
   unfolding segments_from
   segment_empty q f g = g ∙ sym (go (16 - local.len)) ∙ same
     where
@@ -35,7 +35,7 @@ module _ (s : List ℕ) (local : Local) (at end : ℕ) (t : LabelRead)
       go (suc room) = rw (eq-eqb _ _ (sym e ∙ f))
 
   module _ (some : end ≡ at → ⊥) where
-    pub segment_full : (q : LabelRead) → local.len ≡ 16 → q ≡ label_refused 10 at → q ≡ t
+    pub segment_full : (q : Step Local) → local.len ≡ 16 → q ≡ label_refused 10 at → q ≡ t
     unfolding segments_from
     segment_full q full g = g ∙ sym turn ∙ same
       where

@@ -1,12 +1,12 @@
 -- The ways of the functions that look at one segment of a label.
 -- Assumes nothing.
+use Rattle.std.specs.Prelude.{Result, Ok, Err}
 use mathlib.Core.Path.{◌≡◌, refl}
 use mathlib.Core.List.{List, []}
 use Prim.Native.Nat.{ℕ}
 use lib.ListN.{length}
 use Rattle.chars.proofs.Cases.{yes_is, no_is}
-use Rattle.decimal.specs.declared.parse.Number.{Number}
-use Rattle.decimal.specs.declared.parse.Number.TheVariants.{Value, TooBig}
+use Rattle.decimal.specs.declared.parse.NumberError.{NumberError}
 use Rattle.decimal.specs.Parse.{number_of, digits_of}
 use Rattle.version_reading.specs.declared.segment.Segment.{Segment}
 use Rattle.version_reading.specs.declared.segment.Segment.TheVariants.{Number as IsNumber, Text}
@@ -20,12 +20,12 @@ module _ (bytes : List ℕ) (n : ℕ) (e : n ≡ digits_of bytes) where
   unfolding segment_of
   segment_word f = no_is _ _ e f refl
 
-  module _ (r : Number) (f : n ≡ length bytes) (g : r ≡ number_of bytes) where
-    pub segment_long : r ≡ TooBig → Text ≡ segment_of bytes
+  module _ (r : Result ℕ NumberError) (f : n ≡ length bytes) (g : r ≡ number_of bytes) where
+    pub segment_long : (x : NumberError) → r ≡ Err x → Text ≡ segment_of bytes
     unfolding segment_of
-    segment_long h = yes_is _ _ e f (rw (← g, h))
+    segment_long x h = yes_is _ _ e f (rw (← g, h))
 
-    pub segment_number : (v : ℕ) → r ≡ Value v → IsNumber v ≡ segment_of bytes
+    pub segment_number : (v : ℕ) → r ≡ Ok v → IsNumber v ≡ segment_of bytes
     unfolding segment_of
     segment_number v h = yes_is _ _ e f (rw (← g, h))
 

@@ -1,7 +1,6 @@
 -- The segments of a local label: their bytes, and whether those say a number or text.
-use Rattle.std.specs.Prelude.{◌≡◌, cond, List, [], ℕ, ◌-◌, ◌≤◌, eqb, leb, length, get_or, take, drop}
-use Rattle.decimal.specs.declared.parse.Number.{Number}
-use Rattle.decimal.specs.declared.parse.Number.TheVariants.{Value, TooBig}
+use Rattle.std.specs.Prelude.{◌≡◌, cond, List, [], ℕ, ◌-◌, ◌≤◌, eqb, leb, length, get_or, take, drop, Result, Ok, Err}
+use Rattle.decimal.specs.declared.parse.NumberError.{NumberError}
 use Rattle.decimal.specs.Parse.{number_of, digits_of}
 use Rattle.version_parts.specs.declared.fields.Span.{Span}
 use Rattle.version_parts.specs.declared.fields.Local.{Local}
@@ -10,9 +9,9 @@ use Rattle.version_reading.specs.declared.segment.Segment.{Segment}
 use Rattle.version_reading.specs.declared.segment.Segment.TheVariants.{Number as IsNumber, Text}
 use Rattle.version_reading.specs.Reading.{version_of}
 
-abbrev pub numbered : Number → Segment
-numbered (Value n) = IsNumber n
-numbered TooBig = Text
+abbrev pub numbered : Result ℕ NumberError → Segment
+numbered (Ok n) = IsNumber n
+numbered (Err e) = Text
 
 -- what reads as a number below 2^64 is one, and all else is text
 unfoldable pub segment_of : List ℕ → Segment

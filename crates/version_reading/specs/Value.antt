@@ -1,8 +1,7 @@
 -- What a version says, apart from how its text spells it: two readings have the same fields when their values are equal.
-use Rattle.std.specs.Prelude.{List, [], ◌∷◌, ℕ, zero, suc, min, take}
+use Rattle.chars.specs.declared.spelling.PreKind.{PreKind}
+use Rattle.std.specs.Prelude.{List, [], ◌∷◌, ℕ, zero, suc, min, take, Option}
 use Rattle.chars.specs.Case.{lowered}
-use Rattle.version_parts.specs.declared.fields.Pre.{Pre}
-use Rattle.version_parts.specs.declared.fields.MaybeNumber.{MaybeNumber}
 use Rattle.version_parts.specs.declared.fields.Version.{Version}
 use Rattle.version_reading.specs.declared.segment.Segment.{Segment}
 use Rattle.version_reading.specs.declared.segment.Segment.TheVariants.{Number as IsNumber, Text as IsText}
@@ -17,9 +16,9 @@ pub data LocalSegment : Type 0 where
 pub record Value : Type 0 where
   pub epoch : ℕ
   pub release : List ℕ
-  pub pre : Pre
-  pub post : MaybeNumber
-  pub dev : MaybeNumber
+  pub pre : Option (PreKind × ℕ)
+  pub post : Option ℕ
+  pub dev : Option ℕ
   pub label : List LocalSegment
 
 -- a version without its label

@@ -2,33 +2,13 @@
 ghost use Rattle.std.specs.Prelude.{◌<◌, ◌≤◌, length};
 ghost use Rattle.version_parts.specs.Fields.{Spans, no_local, pushed_span};
 ghost use Rattle.version_parts.specs.Places.{Stepped};
-ghost use Rattle.version_reading.specs.Label.{Labelled, word_end, label_refused, segments_from, label_at};
+ghost use Rattle.version_reading.specs.Label.{Labelled, word_end, segments_from, label_at};
 
+use answers::Refusal;
 use chars::class;
 use chars::place::byte_at;
 use version_parts::fields::{Local, Span};
 use version_parts::places::separator_end;
-
-// What rule 8 reads, and where the rest begins. A refusal's number is 0 where there is none, and nothing else is given beside one.
-#[derive(Clone, Copy)]
-pub struct LabelRead {
-    pub refusal: u8,
-    pub place: usize,
-    pub at: usize,
-    pub local: Local,
-}
-
-fn refused(number: u8, place: usize) -> LabelRead
-    ensures { Labelled place (label_refused number place) result }
-{
-    let local = Local::none();
-    LabelRead {
-        refusal: number,
-        place,
-        at: 0,
-        local,
-    }
-}
 
 // Past letters and digits.
 fn word_end(s: &[u8], at: usize) -> usize
@@ -49,20 +29,27 @@ fn pushed(mut local: Local, span: Span) -> Local
     local
 }
 
-// Segments from a place on, one separator between two.
-fn read_segments(s: &[u8], from: usize) -> LabelRead
+// Segments from a place on, one separator between two, and the place after them.
+fn read_segments(s: &[u8], from: usize) -> Result<(Local, usize), Refusal>
     requires { (from ≤ length s.now) × (length s.now ≤ 1024) }
     ensures { Labelled (length s.now) (segments_from 16 s.now no_local from) result }
 {
     let mut local = Local::none();
     let mut at = from;
+    // A turn begins where the last segment and its separator ended: there is no element to go over.
     loop {
         let end = word_end(s, at);
         if end == at {
-            return refused(4, at);
+            return Err(Refusal {
+                number: 4,
+                place: at,
+            });
         }
         if local.len == 16 {
-            return refused(10, at);
+            return Err(Refusal {
+                number: 10,
+                place: at,
+            });
         }
         let span = Span {
             start: at as u16,
@@ -71,29 +58,19 @@ fn read_segments(s: &[u8], from: usize) -> LabelRead
         local = pushed(local, span);
         let next = separator_end(s, end);
         if next == end {
-            return LabelRead {
-                refusal: 0,
-                place: 0,
-                at: end,
-                local,
-            };
+            return Ok((local, end));
         }
         at = next;
     }
 }
 
-pub(crate) fn read_label(s: &[u8], at: usize) -> LabelRead
+// The label, if one stands there, and where the rest begins.
+pub(crate) fn read_label(s: &[u8], at: usize) -> Result<(Local, usize), Refusal>
     requires { (at ≤ length s.now) × (length s.now ≤ 1024) }
     ensures { Labelled (length s.now) (label_at s.now at) result }
 {
     if byte_at(s, at) == b'+' {
         return read_segments(s, at + 1);
     }
-    let local = Local::none();
-    LabelRead {
-        refusal: 0,
-        place: 0,
-        at,
-        local,
-    }
+    Ok((Local::none(), at))
 }

@@ -8,20 +8,18 @@ ghost use Rattle.version_reading.specs.Plain.{
   after_second,
   after_third,
   after_fourth,
-  no_head,
   plain_head_of,
-  found_with,
-  not_plain,
   plain_at,
   plain_of,
+  plain_with,
   whole_version,
 };
 
 use chars::case::beginning;
 use chars::place::byte_at;
-use version_parts::fields::{Local, MaybeNumber, Pre, Release, Version};
-use version_parts::places::{NumberAt, marked_number, number_at};
-use version_parts::suffix::{Suffix, read_suffix};
+use version_parts::fields::{Local, Pre, Release, Version};
+use version_parts::places::{marked_number, number_at};
+use version_parts::suffix::read_suffix;
 
 // The release numbers, and how many they are. Those that are not there are 0. Each number has a field of its own, and so a step of its own.
 #[derive(Clone, Copy)]
@@ -41,186 +39,147 @@ pub struct Plain {
     pub second: u64,
     pub third: u64,
     pub fourth: u64,
-    pub pre: Pre,
-    pub post: MaybeNumber,
-    pub dev: MaybeNumber,
-}
-
-// A text that is not found here may still be a version; the plain one beside it is blank.
-#[derive(Clone, Copy)]
-pub struct PlainReading {
-    pub found: bool,
-    pub plain: Plain,
-}
-
-fn no_head() -> PlainHead
-    ensures { PlainHeaded 0 no_head result }
-{
-    PlainHead {
-        count: 0,
-        first: 0,
-        second: 0,
-        third: 0,
-        fourth: 0,
-        at: 0,
-    }
+    pub pre: Option<Pre>,
+    pub post: Option<u64>,
+    pub dev: Option<u64>,
 }
 
 // After the fourth number no fifth may come.
-fn after_fourth(s: &[u8], first: u64, second: u64, third: u64, fourth: u64, at: usize) -> PlainHead
+fn after_fourth(
+    s: &[u8],
+    first: u64,
+    second: u64,
+    third: u64,
+    fourth: u64,
+    at: usize,
+) -> Option<PlainHead>
     requires { at ≤ length s.now }
     ensures { PlainHeaded (length s.now) (after_fourth s.now first second third fourth at) result }
 {
     match marked_number(s, at, b'.') {
-        NumberAt::Absent => PlainHead {
+        Ok(None) => Some(PlainHead {
             count: 4,
             first,
             second,
             third,
             fourth,
             at,
-        },
-        NumberAt::Read(_, _) => no_head(),
-        NumberAt::TooBig => no_head(),
+        }),
+        Ok(Some(_)) => None,
+        Err(_) => None,
     }
 }
 
-fn after_third(s: &[u8], first: u64, second: u64, third: u64, at: usize) -> PlainHead
+fn after_third(s: &[u8], first: u64, second: u64, third: u64, at: usize) -> Option<PlainHead>
     requires { at ≤ length s.now }
     ensures { PlainHeaded (length s.now) (after_third s.now first second third at) result }
 {
     match marked_number(s, at, b'.') {
-        NumberAt::Absent => PlainHead {
+        Ok(None) => Some(PlainHead {
             count: 3,
             first,
             second,
             third,
             fourth: 0,
             at,
-        },
-        NumberAt::Read(fourth, next) => after_fourth(s, first, second, third, fourth, next),
-        NumberAt::TooBig => no_head(),
+        }),
+        Ok(Some((fourth, next))) => after_fourth(s, first, second, third, fourth, next),
+        Err(_) => None,
     }
 }
 
-fn after_second(s: &[u8], first: u64, second: u64, at: usize) -> PlainHead
+fn after_second(s: &[u8], first: u64, second: u64, at: usize) -> Option<PlainHead>
     requires { at ≤ length s.now }
     ensures { PlainHeaded (length s.now) (after_second s.now first second at) result }
 {
     match marked_number(s, at, b'.') {
-        NumberAt::Absent => PlainHead {
+        Ok(None) => Some(PlainHead {
             count: 2,
             first,
             second,
             third: 0,
             fourth: 0,
             at,
-        },
-        NumberAt::Read(third, next) => after_third(s, first, second, third, next),
-        NumberAt::TooBig => no_head(),
+        }),
+        Ok(Some((third, next))) => after_third(s, first, second, third, next),
+        Err(_) => None,
     }
 }
 
-fn after_first(s: &[u8], first: u64, at: usize) -> PlainHead
+fn after_first(s: &[u8], first: u64, at: usize) -> Option<PlainHead>
     requires { at ≤ length s.now }
     ensures { PlainHeaded (length s.now) (after_first s.now first at) result }
 {
     match marked_number(s, at, b'.') {
-        NumberAt::Absent => PlainHead {
+        Ok(None) => Some(PlainHead {
             count: 1,
             first,
             second: 0,
             third: 0,
             fourth: 0,
             at,
-        },
-        NumberAt::Read(second, next) => after_second(s, first, second, next),
-        NumberAt::TooBig => no_head(),
+        }),
+        Ok(Some((second, next))) => after_second(s, first, second, next),
+        Err(_) => None,
     }
 }
 
-fn read_plain_head(s: &[u8]) -> PlainHead
+fn read_plain_head(s: &[u8]) -> Option<PlainHead>
     ensures { PlainHeaded (length s.now) (plain_head_of s.now) result }
 {
-    match number_at(s, 0) {
-        NumberAt::Absent => no_head(),
-        NumberAt::Read(first, next) => {
-            if byte_at(s, next) == b'!' {
-                return no_head();
-            }
-            after_first(s, first, next)
-        }
-        NumberAt::TooBig => no_head(),
+    let Ok(Some((first, next))) = number_at(s, 0) else {
+        return None;
+    };
+    if byte_at(s, next) == b'!' {
+        return None;
     }
+    after_first(s, first, next)
 }
 
-pub fn found(head: PlainHead, pre: Pre, post: MaybeNumber, dev: MaybeNumber) -> PlainReading
-    ensures { result ≡ found_with head pre post dev }
+pub fn plain_with(head: PlainHead, pre: Option<Pre>, post: Option<u64>, dev: Option<u64>) -> Plain
+    ensures { result ≡ plain_with head pre post dev }
 {
-    PlainReading {
-        found: true,
-        plain: Plain {
-            count: head.count,
-            first: head.first,
-            second: head.second,
-            third: head.third,
-            fourth: head.fourth,
-            pre,
-            post,
-            dev,
-        },
-    }
-}
-
-pub fn not_found() -> PlainReading
-    ensures { PlainRead not_plain result }
-{
-    PlainReading {
-        found: false,
-        plain: Plain {
-            count: 0,
-            first: 0,
-            second: 0,
-            third: 0,
-            fourth: 0,
-            pre: Pre::Absent,
-            post: MaybeNumber::Absent,
-            dev: MaybeNumber::Absent,
-        },
+    Plain {
+        count: head.count,
+        first: head.first,
+        second: head.second,
+        third: head.third,
+        fourth: head.fourth,
+        pre,
+        post,
+        dev,
     }
 }
 
 // From after the release on: nothing, or a suffix and nothing.
-fn read_plain_rest(s: &[u8], head: PlainHead) -> PlainReading
+fn read_plain_rest(s: &[u8], head: PlainHead) -> Option<Plain>
     requires { (head.at ≤ length s.now) × (head.count ≤ 4) × Filled head.count head.first head.second head.third head.fourth }
     ensures { PlainRead (plain_at s.now head) result }
 {
     let at = head.at;
     if at == s.len() {
-        return found(head, Pre::Absent, MaybeNumber::Absent, MaybeNumber::Absent);
+        return Some(plain_with(head, None, None, None));
     }
     if beginning(&s[at..], b".*") != 0 {
-        return not_found();
+        return None;
     }
-    let Suffix::Read(pre, post, dev, next) = read_suffix(s, at) else {
-        return not_found();
+    let Ok(((pre, post, dev), next)) = read_suffix(s, at) else {
+        return None;
     };
     if next == s.len() {
-        return found(head, pre, post, dev);
+        return Some(plain_with(head, pre, post, dev));
     }
-    not_found()
+    None
 }
 
-pub fn read_plain(s: &[u8]) -> PlainReading
+// A text that is not found here may still be a version.
+pub fn read_plain(s: &[u8]) -> Option<Plain>
     ensures { PlainRead (plain_of s.now) result }
 {
     if 1024 < s.len() {
-        return not_found();
+        return None;
     }
-    let head = read_plain_head(s);
-    if head.count == 0 {
-        return not_found();
-    }
+    let head = read_plain_head(s)?;
     read_plain_rest(s, head)
 }
 
@@ -237,16 +196,13 @@ pub fn whole(plain: Plain) -> Version
         numbers,
         len: plain.count,
     };
-    let pre = plain.pre;
-    let post = plain.post;
-    let dev = plain.dev;
     let local = Local::none();
     Version {
         epoch: 0,
         release,
-        pre,
-        post,
-        dev,
+        pre: plain.pre,
+        post: plain.post,
+        dev: plain.dev,
         local,
     }
 }

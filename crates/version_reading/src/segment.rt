@@ -5,10 +5,10 @@ ghost use Rattle.version_reading.specs.Segment.{BytesOf, segment_of, segment_tex
 use crate::text::read_version;
 use chars::class;
 use chars::place::part;
-use decimal::parse::{Number, parse_u64};
+use decimal::parse::parse_u64;
 use version_parts::fields::Local;
 
-// What a segment's bytes say: a number below 2^64, or text.
+// What a segment's bytes say: a number below 2^64, or text. No Option: text is a kind of segment, and not a number that is missing.
 #[derive(Clone, Copy)]
 pub enum Segment {
     Number(u64),
@@ -21,7 +21,7 @@ pub fn segment_of(bytes: &[u8]) -> Segment
     if class::run(bytes, class::DIGIT, class::DIGIT) != bytes.len() {
         return Segment::Text;
     }
-    let Number::Value(n) = parse_u64(bytes) else {
+    let Ok(n) = parse_u64(bytes) else {
         return Segment::Text;
     };
     Segment::Number(n)
@@ -31,8 +31,7 @@ pub fn segment_of(bytes: &[u8]) -> Segment
 pub fn segment_bytes(s: &[u8], local: Local, i: usize) -> &[u8]
     ensures { BytesOf s.now local i result.now }
 {
-    let len = local.len;
-    if len <= i {
+    if local.len <= i {
         return &s[..0];
     }
     if 16 <= i {
@@ -47,9 +46,7 @@ pub fn segment_text(s: &[u8], i: usize) -> &[u8]
     ensures { result.now ≡ segment_text s.now i }
 {
     let read = read_version(s);
-    let version = read.version;
-    let local = version.local;
-    let bytes = segment_bytes(s, local, i);
+    let bytes = segment_bytes(s, read.version.local, i);
     let Segment::Text = segment_of(bytes) else {
         return &bytes[..0];
     };

@@ -1,15 +1,15 @@
 // A whole text: rules 1 to 9, in their order, as a version or as a pattern.
 ghost use Rattle.std.specs.Prelude.{◌≤◌, ◌+◌, length};
-ghost use Rattle.version_reading.specs.Reading.{Read, VersionRead, refused_with, starred, after_suffix, after_release, pattern_as, pattern_of, version_of};
+ghost use Rattle.version_reading.specs.Reading.{Read, VersionRead, reading_of, starred, after_suffix, after_release, pattern_as, pattern_of, version_of};
 
 use crate::label::read_label;
 use crate::plain::{read_plain, whole};
 use answers::Refusal;
 use chars::case::beginning;
 use chars::class;
-use version_parts::fields::{Local, MaybeNumber, Pre, Version};
+use version_parts::fields::{Local, Pre, Version};
 use version_parts::head::{Head, read_head};
-use version_parts::suffix::{Suffix, read_suffix};
+use version_parts::suffix::read_suffix;
 
 #[derive(Clone, Copy)]
 pub enum Verdict {
@@ -31,121 +31,114 @@ pub struct VersionReading {
     pub version: Version,
 }
 
-fn refused(number: u8, place: usize) -> PatternReading
-    requires { place ≤ 1024 }
-    ensures { Read (refused_with number place) result }
-{
-    PatternReading {
-        verdict: Verdict::Refused(Refusal { number, place }),
-        wildcard: false,
-        version: Version::none(),
-    }
-}
-
 // Rule 4, at `.*` after the release.
-fn read_wildcard(s: &[u8], head: Head, wildcards: bool) -> PatternReading
+fn read_wildcard(s: &[u8], head: Head, wildcards: bool) -> Result<(Version, bool), Refusal>
     requires { (head.at + 2 ≤ length s.now) × (length s.now ≤ 1024) × (head.release.len ≤ 16) }
-    ensures { Read (starred wildcards s.now head) result }
+    ensures { Read (starred wildcards s.now head) (reading_of result) }
 {
-    let at = head.at;
-    if wildcards {
-        if at + 2 < s.len() {
-            return refused(7, at + 2);
-        }
-        let release = head.release;
-        let local = Local::none();
-        let version = Version {
-            epoch: head.epoch,
-            release,
-            pre: Pre::Absent,
-            post: MaybeNumber::Absent,
-            dev: MaybeNumber::Absent,
-            local,
-        };
-        return PatternReading {
-            verdict: Verdict::Accepted,
-            wildcard: true,
-            version,
-        };
+    if !wildcards {
+        return Err(Refusal {
+            number: 6,
+            place: head.at,
+        });
     }
-    refused(6, at)
+    if head.at + 2 < s.len() {
+        return Err(Refusal {
+            number: 7,
+            place: head.at + 2,
+        });
+    }
+    let version = Version {
+        epoch: head.epoch,
+        release: head.release,
+        pre: None,
+        post: None,
+        dev: None,
+        local: Local::none(),
+    };
+    Ok((version, true))
 }
 
 // Rules 8 and 9, from after the suffix on.
 fn read_end(
     s: &[u8],
     head: Head,
-    pre: Pre,
-    post: MaybeNumber,
-    dev: MaybeNumber,
+    pre: Option<Pre>,
+    post: Option<u64>,
+    dev: Option<u64>,
     at: usize,
-) -> PatternReading
+) -> Result<(Version, bool), Refusal>
     requires { (at ≤ length s.now) × (length s.now ≤ 1024) × (head.release.len ≤ 16) }
-    ensures { Read (after_suffix s.now head pre post dev at) result }
+    ensures { Read (after_suffix s.now head pre post dev at) (reading_of result) }
 {
-    let label = read_label(s, at);
-    if label.refusal != 0 {
-        return refused(label.refusal, label.place);
-    }
-    let from = label.at;
+    let (local, from) = read_label(s, at)?;
     let end = from + class::run(&s[from..], class::BLANK, class::BLANK);
     if end < s.len() {
-        return refused(5, end);
+        return Err(Refusal {
+            number: 5,
+            place: end,
+        });
     }
-    let release = head.release;
-    let local = label.local;
     let version = Version {
         epoch: head.epoch,
-        release,
+        release: head.release,
         pre,
         post,
         dev,
         local,
     };
-    PatternReading {
-        verdict: Verdict::Accepted,
-        wildcard: false,
-        version,
-    }
+    Ok((version, false))
 }
 
 // Rules 5 to 9, from after the release on.
-fn read_rest(s: &[u8], head: Head) -> PatternReading
+fn read_rest(s: &[u8], head: Head) -> Result<(Version, bool), Refusal>
     requires { (head.at ≤ length s.now) × (length s.now ≤ 1024) × (head.release.len ≤ 16) }
-    ensures { Read (after_release s.now head) result }
+    ensures { Read (after_release s.now head) (reading_of result) }
 {
-    let at = head.at;
-    match read_suffix(s, at) {
-        Suffix::TooBig(digits) => refused(3, digits),
-        Suffix::Read(pre, post, dev, next) => read_end(s, head, pre, post, dev, next),
+    let ((pre, post, dev), next) = read_suffix(s, head.at)?;
+    read_end(s, head, pre, post, dev, next)
+}
+
+// Rules 1 to 9: the version, and whether a wildcard stands after it.
+fn read_all(s: &[u8], wildcards: bool) -> Result<(Version, bool), Refusal>
+    ensures { Read (pattern_as wildcards s.now) (reading_of result) }
+{
+    if 1024 < s.len() {
+        return Err(Refusal {
+            number: 8,
+            place: 1024,
+        });
     }
+    let head = read_head(s)?;
+    if beginning(&s[head.at..], b".*") != 0 {
+        return read_wildcard(s, head, wildcards);
+    }
+    read_rest(s, head)
 }
 
 // Any text, by the rules alone: for a caller that has tried `read_plain`. `wildcards` says whether a wildcard may follow the version.
 pub fn read_by_rules(s: &[u8], wildcards: bool) -> PatternReading
     ensures { Read (pattern_as wildcards s.now) result }
 {
-    if 1024 < s.len() {
-        return refused(8, 1024);
+    match read_all(s, wildcards) {
+        Ok((version, wildcard)) => PatternReading {
+            verdict: Verdict::Accepted,
+            wildcard,
+            version,
+        },
+        Err(refusal) => PatternReading {
+            verdict: Verdict::Refused(refusal),
+            wildcard: false,
+            version: Version::none(),
+        },
     }
-    let head = read_head(s);
-    if head.refusal != 0 {
-        return refused(head.refusal, head.place);
-    }
-    let at = head.at;
-    if beginning(&s[at..], b".*") != 0 {
-        return read_wildcard(s, head, wildcards);
-    }
-    read_rest(s, head)
 }
 
 // Most texts are plain versions; the others are read by the rules.
 fn read_as(s: &[u8], wildcards: bool) -> PatternReading
     ensures { Read (pattern_as wildcards s.now) result }
 {
-    let read = read_plain(s);
-    if read.found {
-        let plain = read.plain;
+    if let Some(plain) = read_plain(s) {
         return PatternReading {
             verdict: Verdict::Accepted,
             wildcard: false,
@@ -165,7 +158,8 @@ pub fn read_version(s: &[u8]) -> VersionReading
     ensures { VersionRead (version_of s.now) result }
 {
     let read = read_as(s, false);
-    let verdict = read.verdict;
-    let version = read.version;
-    VersionReading { verdict, version }
+    VersionReading {
+        verdict: read.verdict,
+        version: read.version,
+    }
 }

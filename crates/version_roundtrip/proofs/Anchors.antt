@@ -1,12 +1,11 @@
 -- Two normal texts, by computation: all parts, each in its place, and none but the release.
 -- Assumes nothing.
+use Rattle.std.specs.Prelude.{None, Some}
 use mathlib.Core.Path.{◌≡◌, refl}
 use mathlib.Core.List.{[], ◌∷◌}
 use Rattle.chars.specs.Text.{ascii}
 use Rattle.chars.specs.declared.spelling.PreKind.TheVariants.{Rc}
 use Rattle.decimal.specs.Digits.{digits, decimal}
-use Rattle.version_parts.specs.declared.fields.Pre.TheVariants.{Absent as NoPre, Is as IsPre}
-use Rattle.version_parts.specs.declared.fields.MaybeNumber.TheVariants.{Absent as NoPart, Is as IsPart}
 use Rattle.version_reading.specs.Value.{number, text, Value}
 use Rattle.version_normal.specs.Normal.{epoch_text}
 use Rattle.version_roundtrip.specs.Text.{value_text}
@@ -15,9 +14,9 @@ abbrev everything : Value
 everything = record {
   epoch = 1;
   release = 2 ∷ 30 ∷ 0 ∷ [];
-  pre = IsPre Rc 4;
-  post = IsPart 5;
-  dev = IsPart 6;
+  pre = Some (Rc, 4);
+  post = Some 5;
+  dev = Some 6;
   label = text (ascii "ab") ∷ number 7 ∷ [];
 }
 
@@ -26,7 +25,7 @@ unfolding value_text epoch_text decimal digits
 all_parts = refl
 
 abbrev nothing : Value
-nothing = record { epoch = 0; release = 0 ∷ []; pre = NoPre; post = NoPart; dev = NoPart; label = [] }
+nothing = record { epoch = 0; release = 0 ∷ []; pre = None; post = None; dev = None; label = [] }
 
 pub no_parts : value_text nothing ≡ ascii "0"
 unfolding value_text epoch_text decimal digits

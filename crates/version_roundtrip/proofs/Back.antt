@@ -1,5 +1,7 @@
 -- The normal text of a value is read back as that value, if it has room, and no other value has that text.
 -- Assumes nothing.
+use Rattle.chars.specs.declared.spelling.PreKind.{PreKind}
+use Rattle.std.specs.Prelude.{Option, Ok}
 use mathlib.Core.Path.{◌≡◌, refl, sym, ◌∙◌, ap}
 use mathlib.Core.Bool.{false}
 use mathlib.Core.List.{List, [], map}
@@ -11,14 +13,11 @@ use Rattle.chars.specs.Text.{ascii}
 use Rattle.chars.specs.Class.{front}
 use Rattle.chars.specs.Case.{starts_with}
 use Rattle.version_parts.specs.declared.fields.Release.{Release}
-use Rattle.version_parts.specs.declared.fields.Pre.{Pre}
-use Rattle.version_parts.specs.declared.fields.MaybeNumber.{MaybeNumber}
 use Rattle.version_parts.specs.declared.fields.Local.{Local}
 use Rattle.version_parts.specs.declared.fields.Version.{Version}
-use Rattle.version_parts.specs.declared.suffix.Suffix.TheVariants.{Read}
 use Rattle.version_reading.specs.declared.text.PatternReading.{PatternReading}
 use Rattle.version_reading.specs.declared.text.Verdict.TheVariants.{Accepted}
-use Rattle.version_parts.specs.Head.{head_read, head_of}
+use Rattle.version_parts.specs.Head.{head_with, head_read, head_of}
 use Rattle.version_parts.specs.Suffix.{suffix_at}
 use Rattle.version_reading.specs.Label.{label_read, label_at}
 use Rattle.version_reading.specs.Reading.{fielded, accepted, after_suffix, after_release, after_head, pattern_as, version_of}
@@ -39,10 +38,10 @@ record WholeBack (s : List ℕ) (v : Value) : Type 0 where
   says : value_of s version ≡ v
 
 -- head, suffix and label are read, and nothing is left
-all_read : (s : List ℕ) (epoch : ℕ) (release : Release) (at : ℕ) (pre : Pre) (post dev : MaybeNumber) (next : ℕ) (local : Local) (end : ℕ) →
+all_read : (s : List ℕ) (epoch : ℕ) (release : Release) (at : ℕ) (pre : Option (PreKind × ℕ)) (post dev : Option ℕ) (next : ℕ) (local : Local) (end : ℕ) →
     head_of s ≡ head_read epoch release at → starts_with (ascii ".*") (drop at s) ≡ false →
-    suffix_at s at ≡ Read pre post dev next → label_at s next ≡ label_read local end → drop end s ≡ [] →
-    after_head false s (head_of s) ≡ accepted false (fielded (head_read epoch release at) pre post dev local)
+    suffix_at s at ≡ Ok ((pre, post, dev), next) → label_at s next ≡ label_read local end → drop end s ≡ [] →
+    after_head false s (head_of s) ≡ accepted false (fielded (head_with epoch release at) pre post dev local)
 unfolding after_release after_suffix front
 all_read s epoch release at pre post dev next local end head star suffix label left =
     rw (head, star, suffix, label, left, le-ltb (end + 0) (length s) (omega (arith, at_end s end left)))
@@ -50,7 +49,7 @@ all_read s epoch release at pre post dev next local end head star suffix label l
 -- the fields, as a value
 value_is : (s : List ℕ) (v : Value) (release : Release) (at : ℕ) (local : Local) → numbers_of release ≡ v.release →
     map label_from (segments_of s local) ≡ v.label → local.len ≤ 16 → length local.spans ≡ 16 →
-    value_of s (fielded (head_read v.epoch release at) v.pre v.post v.dev local) ≡ v
+    value_of s (fielded (head_with v.epoch release at) v.pre v.post v.dev local) ≡ v
 unfolding value_of
 value_is s v release at local e f few size =
     let label = label_listed s local few size ∙ f in
@@ -72,7 +71,7 @@ whole_back v s r text =
     let label = label_back s suffix.next v.label r.label sizes.2 suffix.left in
     let words = ap (map label_from) label.is ∙ words_back v.label r.label in
     record {
-      version = fielded (head_read v.epoch head.release at) v.pre v.post v.dev label.local;
+      version = fielded (head_with v.epoch head.release at) v.pre v.post v.dev label.local;
       read =
           all_read s v.epoch head.release at v.pre v.post v.dev suffix.next label.local label.read.next
           head.read.is star suffix.is label.read.is label.read.left;

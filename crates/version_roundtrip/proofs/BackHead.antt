@@ -1,5 +1,6 @@
 -- The head of a normal text is read back, rules 1 to 3.
 -- Assumes nothing.
+use Rattle.std.specs.Prelude.{Result, None, Ok, Some}
 use mathlib.Core.Path.{◌≡◌, refl, sym, ◌∙◌}
 use mathlib.Core.Bool.{Bool, true, false, cond}
 use mathlib.Core.List.{List, [], ◌∷◌, ◌++◌, map, append-nil, append_assoc}
@@ -11,6 +12,7 @@ use lib.ListN.{length, get_or, drop, length-set}
 use lib.Seq.{append_snoc}
 use borrow.Author.Tests.{ne_eqb}
 use Rattle.order.specs.All.{All}
+use Rattle.answers.specs.declared.Refusal.{Refusal}
 use Rattle.chars.specs.Class.{class_of, between, front}
 use Rattle.chars.proofs.Beginnings.{lower_under}
 use Rattle.decimal.specs.Digits.{decimal}
@@ -18,7 +20,6 @@ use Rattle.decimal.specs.Parse.{digits_of, leading_of}
 use Rattle.decimal.proofs.Values.{lead_none}
 use Rattle.version_parts.specs.declared.fields.Release.{Release}
 use Rattle.version_parts.specs.declared.head.Head.{Head}
-use Rattle.version_parts.specs.declared.places.NumberAt.TheVariants.{Absent, Read}
 use Rattle.version_parts.specs.Fields.{only_number, pushed_number}
 use Rattle.version_parts.specs.Places.{placed, number_at, marked_number}
 use Rattle.version_parts.specs.Head.{head_read, lead_end, release_from, after_epoch, head_at, head_of}
@@ -40,18 +41,18 @@ no_lead = begins_with_digit (λ s. lead_end s ≡ 0) (λ b s d.
 
 -- rule 2: the first number is the release's first, or the epoch
 module _ (s : List ℕ) (lead : lead_end s ≡ 0) where
-  no_epoch : (n next : ℕ) → number_at s 0 ≡ Read n next → eqb (get_or s next 0) (code "!") ≡ false →
+  no_epoch : (n next : ℕ) → number_at s 0 ≡ Ok (Some (n, next)) → eqb (get_or s next 0) (code "!") ≡ false →
       head_of s ≡ release_from 15 s 0 (only_number n) next
   unfolding head_of head_at
   no_epoch n next e f = rw (lead, e, f)
 
-  some_epoch : (epoch n at next : ℕ) → number_at s 0 ≡ Read epoch at → get_or s at 0 ≡ code "!" → number_at s (at + 1) ≡ Read n next →
+  some_epoch : (epoch n at next : ℕ) → number_at s 0 ≡ Ok (Some (epoch, at)) → get_or s at 0 ≡ code "!" → number_at s (at + 1) ≡ Ok (Some (n, next)) →
       head_of s ≡ release_from 15 s epoch (only_number n) next
   unfolding head_of head_at after_epoch
   some_epoch epoch n at next e f g = rw (lead, e, f, g)
 
 -- a release was read back, and `rest` is left of the text
-pub record ReleaseBack (s rest : List ℕ) (epoch : ℕ) (numbers : List ℕ) (step : Head) : Type 0 where
+pub record ReleaseBack (s rest : List ℕ) (epoch : ℕ) (numbers : List ℕ) (step : Result Head Refusal) : Type 0 where
   pub release : Release
   pub read : Left s rest step (head_read epoch release)
   pub is : numbers_of release ≡ numbers
@@ -70,11 +71,11 @@ module _ (s : List ℕ) (rest : List ℕ) (q : Quiet rest) where
   no_mark [] = q.mark
   no_mark (n ∷ ns) = refl
 
-  no_number : (at : ℕ) → drop at s ≡ rest → marked_number (code ".") s at ≡ Absent
+  no_number : (at : ℕ) → drop at s ≡ rest → marked_number (code ".") s at ≡ Ok None
   unfolding marked_number number_at
   no_number at here = rw (byte_here s at rest here, further s at rest here 1) (go (eqb (get_or rest 0 0) (code ".")) q.dot)
     where
-      go : (t : Bool) → cond t (digits_of (drop 1 rest)) 0 ≡ 0 → cond t (placed (at + 1) (leading_of (drop 1 rest))) Absent ≡ Absent
+      go : (t : Bool) → cond t (digits_of (drop 1 rest)) 0 ≡ 0 → cond t (placed (at + 1) (leading_of (drop 1 rest))) (Ok None) ≡ Ok None
       go true e = rw (← lead_none (drop 1 rest) 0 (sym e) refl)
       go false e = refl
 
@@ -87,7 +88,7 @@ module _ (s : List ℕ) (rest : List ℕ) (q : Quiet rest) where
       length release.numbers ≡ 16 → drop at s ≡ following ns →
       ReleaseBack s rest epoch (numbers_of release ++ ns) (release_from (16 - release.len) s epoch release at)
   release_back epoch [] release at fits h size here =
-      let done = release_done s epoch release at _ Absent refl (sym (no_number at here)) refl in
+      let done = release_done s epoch release at _ (Ok None) refl (sym (no_number at here)) refl in
       record {
         release = release;
         read = record { next = at; is = sym done; left = here };
@@ -113,7 +114,7 @@ module _ (s : List ℕ) (rest : List ℕ) (q : Quiet rest) where
   behind_first epoch n ns next fits few here = release_back epoch ns (only_number n) next fits (omega arith) refl here
 
   first_number : (at n : ℕ) (ns : List ℕ) → drop at s ≡ joined_all (map decimal (n ∷ ns)) ++ rest → Fits n →
-      Left s (following ns) (number_at s at) (Read n)
+      Left s (following ns) (number_at s at) (λ next. Ok (Some (n, next)))
   first_number at n ns here fits = number_here s at n (following ns) (here ∙ append_assoc (decimal n) _ rest) fits (no_digit ns)
 
   pub head_back : (epoch : ℕ) (release : List ℕ) → Fits epoch → All Fits release → 1 ≤ length release → length release ≤ 16 →

@@ -10,8 +10,8 @@ use lib.Seq.{append_snoc, take-append_seam}
 use Rattle.order.specs.All.{All}
 use Rattle.chars.specs.Class.{class_of, digit, letter, between, front}
 use Rattle.version_parts.specs.declared.fields.Local.{Local}
-use Rattle.version_reading.specs.declared.label.LabelRead.{LabelRead}
 use Rattle.version_parts.specs.Fields.{no_local, pushed_span}
+use Rattle.version_parts.specs.Suffix.{Step}
 use Rattle.version_reading.specs.Label.{label_read, word_end, spanning, segments_from, label_at}
 use Rattle.version_reading.specs.Segment.{spanned}
 use Rattle.version_reading.specs.Value.{LocalSegment}
@@ -48,7 +48,7 @@ kept_here : (s w : List ℕ) (at : ℕ) (local : Local) → WordHere s w at → 
 kept_here s w at local here h = pushed_segment s local (spanning at (at + length w)) h ∙ (rw here.spans)
 
 -- segments were read back, up to the end of the text
-pub record SegmentsBack (s : List ℕ) (segments : List (List ℕ)) (step : LabelRead) : Type 0 where
+pub record SegmentsBack (s : List ℕ) (segments : List (List ℕ)) (step : Step Local) : Type 0 where
   pub local : Local
   pub read : Left s [] step (label_read local)
   pub is : segments_of s local ≡ segments

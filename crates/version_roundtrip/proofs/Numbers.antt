@@ -1,5 +1,6 @@
 -- The decimal digits of a number: they are digits, they are read as the number, and no digits of the number are fewer.
 -- Assumes nothing.
+use Rattle.std.specs.Prelude.{Ok}
 use mathlib.Core.Path.{◌≡◌, refl, sym, ◌∙◌}
 use mathlib.Core.Bool.{Bool, true, false, cond}
 use mathlib.Core.List.{List, [], ◌∷◌, ◌++◌}
@@ -13,7 +14,6 @@ use borrow.Author.Tests.{le-leb, leb-true, ltb-true, ltb-false, lt-ltb}
 use Rattle.order.specs.All.{All}
 use Rattle.order.proofs.Elements.{all_append}
 use Rattle.chars.specs.Class.{class_of, digit, between}
-use Rattle.decimal.specs.declared.parse.Number.TheVariants.{Value}
 use Rattle.decimal.specs.Digits.{figure, decimal}
 use Rattle.decimal.specs.Parse.{digit_of, value_from, number_of}
 use Rattle.decimal.proofs.Figures.{one_digit, more_digits}
@@ -74,7 +74,7 @@ decimal_digits = by_digits DigitsOf one more
       some = omega (arith, length-append ds (figure (n % 10) ∷ []));
     }
 
-pub number_back : (n : ℕ) → n < 2 ^ 64 → number_of (decimal n) ≡ Value n
+pub number_back : (n : ℕ) → n < 2 ^ 64 → number_of (decimal n) ≡ Ok n
 unfolding number_of
 number_back n h = rw ((decimal_digits n).value, lt-ltb n (2 ^ 64) h)
 

@@ -1,34 +1,30 @@
 -- What any text says, if it is accepted: a value that can be read, and whose normal text has at most nine bytes more than the text.
 -- Assumes nothing.
+use Rattle.answers.specs.declared.Refusal.{Refusal}
+use Rattle.chars.specs.declared.spelling.PreKind.{PreKind}
+use Rattle.std.specs.Prelude.{Option, None, Result, Ok, Err}
 use mathlib.Core.Path.{◌≡◌, refl, subst}
 use mathlib.Core.Bool.{Bool, true, false, cond}
 use mathlib.Core.List.{List, map}
 use Prim.Native.Nat.{ℕ, ◌+◌, ◌≤◌}
 use native.Mathlib.Omega.{arith}
-use lib.Dec.{eqb, ltb}
+use lib.Dec.{ltb}
 use lib.ListN.{length, take, drop, length-take, length-map}
-use borrow.Author.Tests.{eqb-true, ltb-false}
+use borrow.Author.Tests.{ltb-false}
 use Rattle.chars.specs.Text.{ascii}
 use Rattle.chars.specs.Class.{blank, between, front}
 use Rattle.chars.specs.Case.{starts_with}
-use Rattle.version_parts.specs.declared.fields.Pre.{Pre}
-use Rattle.version_parts.specs.declared.fields.Pre.TheVariants.{Absent as NoPre}
-use Rattle.version_parts.specs.declared.fields.MaybeNumber.{MaybeNumber}
-use Rattle.version_parts.specs.declared.fields.MaybeNumber.TheVariants.{Absent as NoPart}
 use Rattle.version_parts.specs.declared.fields.Local.{Local}
 use Rattle.version_parts.specs.declared.fields.Version.{Version}
 use Rattle.version_parts.specs.declared.head.Head.{Head}
-use Rattle.version_reading.specs.declared.label.LabelRead.{LabelRead}
-use Rattle.version_parts.specs.declared.suffix.Suffix.{Suffix}
-use Rattle.version_parts.specs.declared.suffix.Suffix.TheVariants.{Read as SuffixIs, TooBig}
 use Rattle.version_reading.specs.declared.text.PatternReading.{PatternReading}
 use Rattle.version_reading.specs.declared.text.Verdict.{Verdict}
 use Rattle.version_reading.specs.declared.text.Verdict.TheVariants.{Accepted, Refused}
 use Rattle.version_parts.specs.Fields.{no_local, no_version}
 use Rattle.version_parts.specs.Head.{head_of}
-use Rattle.version_parts.specs.Suffix.{suffix_at}
+use Rattle.version_parts.specs.Suffix.{Step, Parts, suffix_at}
 use Rattle.version_reading.specs.Label.{label_at}
-use Rattle.version_reading.specs.Reading.{longest, fielded, starred, ended, after_suffix, suffixed, after_release, after_head, pattern_as, pattern_of, version_of}
+use Rattle.version_reading.specs.Reading.{longest, fielded, starred, after_label, after_suffix, suffixed, after_release, after_head, pattern_as, pattern_of, version_of}
 use Rattle.version_reading.specs.Segment.{spanned}
 use Rattle.version_reading.specs.Value.{label_from, value_of}
 use Rattle.version_roundtrip.specs.Text.{dotted_all, label_text, value_text}
@@ -38,7 +34,7 @@ use Rattle.version_roundtrip.proofs.Lengths.{parts_length, joined_length}
 use Rattle.version_roundtrip.proofs.ReadPlaces.{by_cond}
 use Rattle.version_roundtrip.proofs.ReadHead.{HeadRead, HeadSound, head_sound}
 use Rattle.version_roundtrip.proofs.ReadSuffix.{SuffixRead, SuffixSound, suffix_sound}
-use Rattle.version_roundtrip.proofs.ReadLabel.{SegmentsRead, none_read, label_sound, segments_fit, label_long}
+use Rattle.version_roundtrip.proofs.ReadLabel.{SegmentsRead, LabelSound, none_read, label_sound, segments_fit, label_long}
 
 -- the fields v of an accepted text
 pub record Said (s : List ℕ) (v : Version) : Type 0 where
@@ -49,7 +45,7 @@ pub record Said (s : List ℕ) (v : Version) : Type 0 where
   pub grows : length (value_text (value_of s v)) ≤ length s + 9
 
 -- the parts of a text, one after the other
-module _ (s : List ℕ) (h : Head) (pre : Pre) (post dev : MaybeNumber) (next : ℕ) (local : Local) (end : ℕ)
+module _ (s : List ℕ) (h : Head) (pre : Option (PreKind × ℕ)) (post dev : Option ℕ) (next : ℕ) (local : Local) (end : ℕ)
     (head : HeadRead s h.epoch h.release h.at) (suffix : SuffixRead s h.at pre post dev next)
     (label : SegmentsRead s next local end) where
   abbrev version : Version
@@ -101,40 +97,34 @@ Sound s r = Outcome s r.verdict r.version
 
 -- rule by rule, after a head that was read
 module _ (s : List ℕ) (short : length s ≤ 1024) (h : Head) (head : HeadRead s h.epoch h.release h.at) where
-  label_read : (pre : Pre) (post dev : MaybeNumber) (next : ℕ) → SuffixRead s h.at pre post dev next →
+  label_read : (pre : Option (PreKind × ℕ)) (post dev : Option ℕ) (next : ℕ) → SuffixRead s h.at pre post dev next →
       Sound s (after_suffix s h pre post dev next)
   unfolding after_suffix
-  label_read pre post dev next suffix = by_cond (Sound s) (eqb l.refusal 0) (λ e. to_the_end (eqb-true _ _ e)) (λ e. refl)
+  label_read pre post dev next suffix = go (label_at s next) (label_sound s next suffix.within)
     where
-      l : LabelRead
-      l = label_at s next
-
-      end : ℕ
-      end = l.at + front (between blank blank) (drop l.at s)
-
-      to_the_end : l.refusal ≡ 0 → Sound s (ended s (fielded h pre post dev l.local) end)
-      to_the_end e =
-          let label = label_sound s next suffix.within e in
-          by_cond (Sound s) (ltb end (length s)) (λ f. refl)
-          (λ f. said s h pre post dev next l.local l.at head suffix label short)
+      go : (x : Step Local) → LabelSound s next x → Sound s (after_label s h pre post dev x)
+      go (Ok (local, at)) label =
+          by_cond (Sound s) (ltb (at + front (between blank blank) (drop at s)) (length s)) (λ f. refl)
+          (λ f. said s h pre post dev next local at head suffix label short)
+      go (Err e) label = refl
 
   suffix_read : Sound s (after_release s h)
   unfolding after_release
   suffix_read = go (suffix_at s h.at) (suffix_sound s h.at head.within)
     where
-      go : (x : Suffix) → SuffixSound s h.at x → Sound s (suffixed s h x)
-      go (SuffixIs pre post dev next) r = label_read pre post dev next r
-      go (TooBig d) r = refl
+      go : (x : Step Parts) → SuffixSound s h.at x → Sound s (suffixed s h x)
+      go (Ok ((pre, post, dev), next)) r = label_read pre post dev next r
+      go (Err d) r = refl
 
   -- a wildcard ends the text, and what stands before it has no suffix and no label
   star_read : (wildcards : Bool) → Sound s (starred wildcards s h)
   unfolding starred
   star_read wildcards =
       by_cond (Sound s) wildcards
-      (λ e. by_cond (Sound s) (ltb (h.at + 2) (length s)) (λ f. refl) (λ f. said s h NoPre NoPart NoPart h.at no_local h.at head bare unlabelled short))
+      (λ e. by_cond (Sound s) (ltb (h.at + 2) (length s)) (λ f. refl) (λ f. said s h None None None h.at no_local h.at head bare unlabelled short))
       (λ e. refl)
     where
-      bare : SuffixRead s h.at NoPre NoPart NoPart h.at
+      bare : SuffixRead s h.at None None None h.at
       bare = record { pre_fits = tt; post_fits = tt; dev_fits = tt; grows = omega arith; within = head.within }
 
       unlabelled : SegmentsRead s h.at no_local h.at
@@ -144,9 +134,9 @@ module _ (s : List ℕ) (short : length s ≤ 1024) (h : Head) (head : HeadRead 
   release_read wildcards =
       by_cond (Sound s) (starts_with (ascii ".*") (drop h.at s)) (λ e. star_read wildcards) (λ e. suffix_read)
 
-head_read : (wildcards : Bool) (s : List ℕ) → length s ≤ 1024 → (h : Head) → HeadSound s h → Sound s (after_head wildcards s h)
-head_read wildcards s short h sound =
-    by_cond (Sound s) (eqb h.refusal 0) (λ e. release_read s short h (sound (eqb-true _ _ e)) wildcards) (λ e. refl)
+head_read : (wildcards : Bool) (s : List ℕ) → length s ≤ 1024 → (x : Result Head Refusal) → HeadSound s x → Sound s (after_head wildcards s x)
+head_read wildcards s short (Ok h) head = release_read s short h head wildcards
+head_read wildcards s short (Err e) head = refl
 
 reading_sound : (wildcards : Bool) (s : List ℕ) → Sound s (pattern_as wildcards s)
 unfolding pattern_as

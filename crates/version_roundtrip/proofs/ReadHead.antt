@@ -1,5 +1,6 @@
 -- What is read of the head of any text, rules 1 to 3: at most 16 numbers of 64 bits, which are written again in no more bytes.
 -- Assumes nothing.
+use Rattle.std.specs.Prelude.{Result, Ok, Err}
 use mathlib.Core.Path.{◌≡◌, refl, ◌∙◌}
 use mathlib.Core.Bool.{cond}
 use mathlib.Core.List.{List, [], ◌∷◌, map, map-append, append-nil}
@@ -13,6 +14,7 @@ use Rattle.order.proofs.Elements.{all_append}
 use Rattle.chars.specs.Class.{blank, between, front}
 use Rattle.chars.specs.Case.{lower_of}
 use Rattle.decimal.specs.Digits.{decimal}
+use Rattle.answers.specs.declared.Refusal.{Refusal}
 use Rattle.version_parts.specs.declared.fields.Release.{Release}
 use Rattle.version_parts.specs.declared.head.Head.{Head}
 use Rattle.version_parts.specs.Fields.{only_number, pushed_number}
@@ -43,8 +45,9 @@ pub record HeadRead (s : List ℕ) (epoch : ℕ) (release : Release) (at : ℕ) 
   pub long : length (epoch_text epoch) + length (dotted_all (map decimal (numbers_of release))) ≤ at + 1
   pub within : at ≤ length s
 
-abbrev pub HeadSound : List ℕ → Head → Type 0
-HeadSound s h = h.refusal ≡ 0 → HeadRead s h.epoch h.release h.at
+abbrev pub HeadSound : List ℕ → Result Head Refusal → Type 0
+HeadSound s (Ok h) = HeadRead s h.epoch h.release h.at
+HeadSound s (Err e) = Unit {0}
 
 first_number : (s : List ℕ) (epoch at n next : ℕ) → Fits epoch → length (epoch_text epoch) ≤ at → NumberRead s at n next →
     HeadRead s epoch (only_number n) next
@@ -77,15 +80,15 @@ release_sound : (room : ℕ) (s : List ℕ) (epoch : ℕ) (release : Release) (a
 unfolding release_from
 release_sound zero s epoch release at full h =
     by_number (HeadSound s) s (at + 1) (marked_number (code ".") s at) (marked_sound (code ".") s at refl)
-    (λ e. h)
-    (λ n next r e. absurd (omega arith))
-    (λ e. absurd (omega arith))
+    h
+    (λ n next r. tt)
+    (λ e. tt)
 release_sound (suc room) s epoch release at full h =
     by_number (HeadSound s) s (at + 1) (marked_number (code ".") s at) (marked_sound (code ".") s at refl)
-    (λ e. h)
+    h
     (λ n next r.
     release_sound room s epoch (pushed_number release n) next (omega arith) (next_number s epoch release at n next h (omega arith) r))
-    (λ e. absurd (omega arith))
+    (λ e. tt)
 
 lead_within : (s : List ℕ) → lead_end s ≤ length s
 unfolding lead_end lower_of
@@ -100,9 +103,9 @@ after_epoch_sound : (s : List ℕ) (from n at : ℕ) → NumberRead s from n at 
 unfolding after_epoch
 after_epoch_sound s from n at r inside =
     by_number (HeadSound s) s (at + 1) (number_at s (at + 1)) (number_sound s (at + 1) (omega arith))
-    (λ e. absurd (omega arith))
+    tt
     (λ m next q. release_sound 15 s n (only_number m) next refl (first_number s n (at + 1) m next r.fits written q))
-    (λ e. absurd (omega arith))
+    (λ e. tt)
   where
     written : length (epoch_text n) ≤ at + 1
     written = omega (arith, r.long, epoch_length n)
@@ -110,7 +113,7 @@ after_epoch_sound s from n at r inside =
 first_sound : (s : List ℕ) (at : ℕ) → at ≤ length s → HeadSound s (head_at s at)
 unfolding head_at epoch_text
 first_sound s at h =
-    by_number (HeadSound s) s at (number_at s at) (number_sound s at h) (λ e. absurd (omega arith)) number (λ e. absurd (omega arith))
+    by_number (HeadSound s) s at (number_at s at) (number_sound s at h) tt number (λ e. tt)
   where
     number : (n next : ℕ) → NumberRead s at n next →
         HeadSound s (cond (eqb (get_or s next 0) (code "!")) (after_epoch s n (next + 1)) (release_from 15 s 0 (only_number n) next))

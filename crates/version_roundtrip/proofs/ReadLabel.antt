@@ -1,5 +1,6 @@
 -- What is read of the label of any text, rule 8: at most 16 segments of letters and digits, which are written again in no more bytes.
 -- Assumes nothing.
+use Rattle.std.specs.Prelude.{Ok, Err}
 use mathlib.Core.Path.{◌≡◌, refl, ◌∙◌, subst}
 use mathlib.Core.Bool.{Bool, true}
 use mathlib.Core.List.{List, [], ◌∷◌, map}
@@ -16,11 +17,11 @@ use Rattle.chars.proofs.Beginnings.{lowered_length}
 use Rattle.decimal.specs.Digits.{decimal}
 use Rattle.decimal.specs.Parse.{value_from, number_of, digits_of}
 use Rattle.version_parts.specs.declared.fields.Local.{Local}
-use Rattle.version_reading.specs.declared.label.LabelRead.{LabelRead}
 use Rattle.version_reading.specs.declared.segment.Segment.{Segment}
 use Rattle.version_reading.specs.declared.segment.Segment.TheVariants.{Number as IsNumber, Text}
 use Rattle.version_parts.specs.Fields.{no_local, pushed_span}
 use Rattle.version_parts.specs.Places.{separator_end}
+use Rattle.version_parts.specs.Suffix.{Step}
 use Rattle.version_reading.specs.Label.{word_end, spanning, more_segments, segments_from, label_at}
 use Rattle.version_reading.specs.Segment.{numbered, segment_of, spanned}
 use Rattle.version_reading.specs.Value.{label_as, label_from}
@@ -72,8 +73,9 @@ pub record SegmentsRead (s : List ℕ) (from : ℕ) (local : Local) (at : ℕ) :
   pub long : from + length (dotted_all (segments_of s local)) ≤ at
   pub within : at ≤ length s
 
-abbrev pub LabelSound : List ℕ → ℕ → LabelRead → Type 0
-LabelSound s from l = l.refusal ≡ 0 → SegmentsRead s from l.local l.at
+abbrev pub LabelSound : List ℕ → ℕ → Step Local → Type 0
+LabelSound s from (Ok (local, at)) = SegmentsRead s from local at
+LabelSound s from (Err e) = Unit {0}
 
 pub none_read : (s : List ℕ) (at : ℕ) → at ≤ length s → SegmentsRead s at no_local at
 none_read s at h = record { few = omega arith; size = refl; segments = tt; long = omega arith; within = h }
@@ -101,12 +103,12 @@ behind s from local at next r h g = record {
   within = g;
 }
 
-more_sound : (more : Local → ℕ → LabelRead) (s : List ℕ) (from : ℕ) (local : Local) (at end : ℕ) →
+more_sound : (more : Local → ℕ → Step Local) (s : List ℕ) (from : ℕ) (local : Local) (at end : ℕ) →
     let kept = pushed_span local (spanning at end) in SegmentsRead s from kept end →
     ((next : ℕ) → SegmentsRead s (from + 1) kept next → LabelSound s from (more kept next)) →
     LabelSound s from (more_segments more s local at end)
 more_sound more s from local at end r further =
-    by_cond (LabelSound s from) (eqb (separator_end s end) end) (λ e f. r) (λ e. further _ (next (eqb-false _ _ e)))
+    by_cond (LabelSound s from) (eqb (separator_end s end) end) (λ e. r) (λ e. further _ (next (eqb-false _ _ e)))
   where
     next : (separator_end s end ≡ end → ⊥) → SegmentsRead s (from + 1) (pushed_span local (spanning at end)) (separator_end s end)
     next moved =
@@ -117,16 +119,16 @@ segments_sound : (room : ℕ) (s : List ℕ) (from : ℕ) (local : Local) (at : 
     LabelSound s from (segments_from room s local at)
 unfolding segments_from
 segments_sound zero s from local at full r =
-    by_cond (LabelSound s from) (eqb (word_end s at) at) (λ e f. absurd (omega arith)) (λ e f. absurd (omega arith))
+    by_cond (LabelSound s from) (eqb (word_end s at) at) (λ e. tt) (λ e. tt)
 segments_sound (suc room) s from local at full r =
     let kept = pushed_span local (spanning at (word_end s at)) in
-    by_cond (LabelSound s from) (eqb (word_end s at) at) (λ e f. absurd (omega arith))
+    by_cond (LabelSound s from) (eqb (word_end s at) at) (λ e. tt)
     (λ e. more_sound (segments_from room s) s from local at (word_end s at) (next_segment s from local at r (omega arith) (eqb-false _ _ e))
     (λ next q. segments_sound room s from kept next (omega arith) q))
 
 pub label_sound : (s : List ℕ) (at : ℕ) → at ≤ length s → LabelSound s at (label_at s at)
 unfolding label_at
-label_sound s at h = by_cond (LabelSound s at) (eqb (get_or s at 0) (code "+")) plus (λ e f. none_read s at h)
+label_sound s at h = by_cond (LabelSound s at) (eqb (get_or s at 0) (code "+")) plus (λ e. none_read s at h)
   where
     plus : eqb (get_or s at 0) (code "+") ≡ true → LabelSound s at (segments_from 16 s no_local (at + 1))
     plus e =

@@ -1,5 +1,7 @@
 -- What stands at a place of any text: a number that was read is a number of 64 bits, takes the bytes that it writes again, and ends within
 -- the text. Assumes nothing.
+use Rattle.answers.specs.declared.Refusal.{Refusal}
+use Rattle.std.specs.Prelude.{Err, None, Ok, Some}
 use mathlib.Core.Path.{◌≡◌, refl, sym, ◌∙◌, ap}
 use mathlib.Core.Bool.{Bool, true, false, false≢true, cond}
 use mathlib.Core.List.{List, [], ◌∷◌}
@@ -9,12 +11,9 @@ use lib.Dec.{leb, ltb, eqb}
 use lib.ListN.{length, get_or, take, drop, length-take, length-drop, get_or-eq_default}
 use borrow.Author.Tests.{ltb-true, leb-true, leb-false, eqb-false}
 use Rattle.chars.specs.Class.{class_of, separator, digit, between, front}
-use Rattle.decimal.specs.declared.parse.Number.TheVariants.{TooBig}
 use Rattle.decimal.specs.Digits.{decimal}
 use Rattle.decimal.specs.Parse.{value_from, number_of, digits_of, sized, leading_of}
-use Rattle.version_parts.specs.declared.places.NumberAt.{NumberAt}
-use Rattle.version_parts.specs.declared.places.NumberAt.TheVariants.{Absent, Read, TooBig}
-use Rattle.version_parts.specs.Places.{separator_end, placed, number_at, marked_number, on_number}
+use Rattle.version_parts.specs.Places.{NumberAt, separator_end, placed, number_at, marked_number, on_number}
 use Rattle.version_roundtrip.specs.Readable.{Fits}
 use Rattle.version_roundtrip.proofs.Numbers.{no_fewer}
 
@@ -58,9 +57,9 @@ pub record NumberRead (s : List ℕ) (at n next : ℕ) : Type 0 where
   pub within : next ≤ length s
 
 abbrev pub NumberSound : List ℕ → ℕ → NumberAt → Type 0
-NumberSound s at Absent = Unit {0}
-NumberSound s at (Read n next) = NumberRead s at n next
-NumberSound s at TooBig = Unit {0}
+NumberSound s at (Ok None) = Unit {0}
+NumberSound s at (Ok (Some (n, next))) = NumberRead s at n next
+NumberSound s at (Err e) = Unit {0}
 
 -- the digits at `at`, one at least, where their value is a number of 64 bits
 digits_read : (s : List ℕ) (at : ℕ) → at ≤ length s → let count = digits_of (drop at s) in (count ≡ 0 → ⊥) →
@@ -96,8 +95,8 @@ marked_sound mark s at some =
     (λ e. let inside = byte_within s at (λ b. eqb b mark) some e in number_sound s (at + 1) (omega arith)) (λ e. tt)
 
 -- what holds in each case of a number holds of the answer by cases
-pub by_number : {A : Type 0} (P : A → Type 0) (s : List ℕ) (at : ℕ) (x : NumberAt) {none : A} {read : ℕ → ℕ → A} {big : A} →
-    NumberSound s at x → P none → ((n next : ℕ) → NumberRead s at n next → P (read n next)) → P big → P (on_number x none read big)
-by_number P s at Absent g none read big = none
-by_number P s at (Read n next) g none read big = read n next g
-by_number P s at TooBig g none read big = big
+pub by_number : {A : Type 0} (P : A → Type 0) (s : List ℕ) (at : ℕ) (x : NumberAt) {none : A} {read : ℕ → ℕ → A} {refused : Refusal → A} →
+    NumberSound s at x → P none → ((n next : ℕ) → NumberRead s at n next → P (read n next)) → ((e : Refusal) → P (refused e)) → P (on_number x none read refused)
+by_number P s at (Ok None) g none read refused = none
+by_number P s at (Ok (Some (n, next))) g none read refused = read n next g
+by_number P s at (Err e) g none read refused = refused e

@@ -1,5 +1,6 @@
 -- A place of a text by the rest of the text that begins there: what is read at the place is what is read of the rest.
 -- Assumes nothing.
+use Rattle.std.specs.Prelude.{Some, Ok}
 use mathlib.Core.Path.{◌≡◌, refl, sym, ◌∙◌, ap}
 use mathlib.Core.Bool.{Bool, true, false, cond}
 use mathlib.Core.List.{List, [], ◌∷◌, ◌++◌, append-nil}
@@ -13,10 +14,8 @@ use borrow.Author.Tests.{ne_eqb}
 use Rattle.order.specs.All.{All}
 use Rattle.order.proofs.Elements.{all_weaker}
 use Rattle.chars.specs.Class.{class_of, separator, digit, between, front}
-use Rattle.decimal.specs.declared.parse.Leading.TheVariants.{Read as Led}
 use Rattle.decimal.specs.Digits.{decimal}
 use Rattle.decimal.specs.Parse.{digits_of, leading_of}
-use Rattle.version_parts.specs.declared.places.NumberAt.TheVariants.{Read}
 use Rattle.version_parts.specs.Places.{separator_end, number_at}
 use Rattle.version_roundtrip.specs.Readable.{Fits}
 use Rattle.version_roundtrip.proofs.Numbers.{Digit, digit_class, digit_between, decimal_digits, number_back, begins_with_digit}
@@ -75,7 +74,7 @@ pub all_digits : (n : ℕ) → digits_of (decimal n) ≡ length (decimal n)
 unfolding front
 all_digits n = rw (append-nil (decimal n)) at (digits_end n [] refl)
 
-leading_back : (n : ℕ) (rest : List ℕ) → Fits n → digits_of rest ≡ 0 → leading_of (decimal n ++ rest) ≡ Led n (length (decimal n))
+leading_back : (n : ℕ) (rest : List ℕ) → Fits n → digits_of rest ≡ 0 → leading_of (decimal n ++ rest) ≡ Ok (Some (n, (length (decimal n))))
 unfolding leading_of
 leading_back n rest h e =
     let some = (decimal_digits n).some in
@@ -85,7 +84,7 @@ pub no_separator : (n : ℕ) (rest : List ℕ) → separated (decimal n ++ rest)
 no_separator = begins_with_digit (λ s. separated s ≡ 0) (λ b s d. rw (digit_class b d))
 
 pub number_here : (s : List ℕ) (at n : ℕ) (rest : List ℕ) → drop at s ≡ decimal n ++ rest → Fits n → digits_of rest ≡ 0 →
-    Left s rest (number_at s at) (Read n)
+    Left s rest (number_at s at) (λ next. Ok (Some (n, next)))
 unfolding number_at
 number_here s at n rest here h e = record {
   next = at + length (decimal n);

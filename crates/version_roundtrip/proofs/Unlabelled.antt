@@ -1,5 +1,7 @@
 -- A value without a label is written in at most 427 bytes, so that its normal text is always read back.
 -- Assumes nothing.
+use Rattle.chars.specs.declared.spelling.PreKind.{PreKind}
+use Rattle.std.specs.Prelude.{Option, None, Some}
 use mathlib.Core.Path.{◌≡◌}
 use mathlib.Core.List.{List, [], ◌∷◌, map}
 use Prim.Native.Nat.{ℕ, ◌+◌, ◌*◌, ◌≤◌}
@@ -10,10 +12,6 @@ use Rattle.chars.specs.Text.{ascii}
 use Rattle.chars.specs.declared.spelling.PreKind.TheVariants.{Alpha, Beta, Rc}
 use Rattle.decimal.specs.Digits.{decimal}
 use Rattle.decimal.proofs.Figures.{twenty_digits}
-use Rattle.version_parts.specs.declared.fields.Pre.{Pre}
-use Rattle.version_parts.specs.declared.fields.Pre.TheVariants.{Absent as NoPre, Is as IsPre}
-use Rattle.version_parts.specs.declared.fields.MaybeNumber.{MaybeNumber}
-use Rattle.version_parts.specs.declared.fields.MaybeNumber.TheVariants.{Absent as NoPart, Is as IsPart}
 use Rattle.version_reading.specs.declared.text.Verdict.TheVariants.{Accepted}
 use Rattle.version_reading.specs.Reading.{version_of}
 use Rattle.version_reading.specs.Value.{Value, value_in}
@@ -29,15 +27,15 @@ dotted_short [] fits = omega arith
 dotted_short (n ∷ ns) fits =
     omega (arith, twenty_digits n fits.0, dotted_short ns fits.1, length-append (decimal n) (dotted_all (map decimal ns)))
 
-pre_short : (pre : Pre) → PreFits pre → length (pre_text pre) ≤ 22
-pre_short NoPre fits = omega arith
-pre_short (IsPre Alpha n) fits = omega (arith, twenty_digits n fits)
-pre_short (IsPre Beta n) fits = omega (arith, twenty_digits n fits)
-pre_short (IsPre Rc n) fits = omega (arith, twenty_digits n fits)
+pre_short : (pre : Option (PreKind × ℕ)) → PreFits pre → length (pre_text pre) ≤ 22
+pre_short None fits = omega arith
+pre_short (Some (Alpha, n)) fits = omega (arith, twenty_digits n fits)
+pre_short (Some (Beta, n)) fits = omega (arith, twenty_digits n fits)
+pre_short (Some (Rc, n)) fits = omega (arith, twenty_digits n fits)
 
-part_short : (name : List ℕ) (part : MaybeNumber) → PartFits part → length (part_text name part) ≤ length name + 20
-part_short name NoPart fits = omega arith
-part_short name (IsPart n) fits = omega (arith, twenty_digits n fits, length-append name (decimal n))
+part_short : (name : List ℕ) (part : Option ℕ) → PartFits part → length (part_text name part) ≤ length name + 20
+part_short name None fits = omega arith
+part_short name (Some n) fits = omega (arith, twenty_digits n fits, length-append name (decimal n))
 
 module _ (v : Value) (r : Readable v) (unlabelled : v.label ≡ []) where
   pub unlabelled_length : length (value_text v) ≤ 427

@@ -1,12 +1,9 @@
 -- Which values a text can say, if it has room for them.
-use Rattle.std.specs.Prelude.{◌≡◌, true, List, [], ℕ, ◌^◌, ◌≤◌, ◌<◌, length}
+use Rattle.chars.specs.declared.spelling.PreKind.{PreKind}
+use Rattle.std.specs.Prelude.{◌≡◌, true, List, [], ℕ, ◌^◌, ◌≤◌, ◌<◌, length, Option, None, Some}
 use Rattle.order.specs.All.{All}
 use Rattle.chars.specs.Class.{digit, letter, between}
 use Rattle.chars.specs.Case.{lowered}
-use Rattle.version_parts.specs.declared.fields.Pre.{Pre}
-use Rattle.version_parts.specs.declared.fields.Pre.TheVariants.{Absent as NoPre, Is as IsPre}
-use Rattle.version_parts.specs.declared.fields.MaybeNumber.{MaybeNumber}
-use Rattle.version_parts.specs.declared.fields.MaybeNumber.TheVariants.{Absent as NoPart, Is as IsPart}
 use Rattle.version_reading.specs.declared.segment.Segment.TheVariants.{Text}
 use Rattle.version_reading.specs.Segment.{segment_of}
 use Rattle.version_reading.specs.Value.{LocalSegment, number, text, Value}
@@ -15,13 +12,13 @@ use Rattle.version_reading.specs.Value.{LocalSegment, number, text, Value}
 abbrev pub Fits : ℕ → Type 0
 Fits n = n < 2 ^ 64
 
-abbrev pub PreFits : Pre → Type 0
-PreFits NoPre = Unit {0}
-PreFits (IsPre kind n) = Fits n
+abbrev pub PreFits : Option (PreKind × ℕ) → Type 0
+PreFits None = Unit {0}
+PreFits (Some (kind, n)) = Fits n
 
-abbrev pub PartFits : MaybeNumber → Type 0
-PartFits NoPart = Unit {0}
-PartFits (IsPart n) = Fits n
+abbrev pub PartFits : Option ℕ → Type 0
+PartFits None = Unit {0}
+PartFits (Some n) = Fits n
 
 -- a letter or a digit
 abbrev pub Plain : ℕ → Type 0

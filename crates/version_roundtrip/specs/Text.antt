@@ -1,10 +1,9 @@
 -- The normal text of a value: what a version says, written in its one way.
-use Rattle.std.specs.Prelude.{List, [], ◌∷◌, ◌++◌, map, ℕ}
+use Rattle.chars.specs.declared.spelling.PreKind.{PreKind}
+use Rattle.std.specs.Prelude.{List, [], ◌∷◌, ◌++◌, map, ℕ, Option}
 use Prim.Native.Char.{code}
 use Rattle.chars.specs.Text.{ascii}
 use Rattle.decimal.specs.Digits.{decimal}
-use Rattle.version_parts.specs.declared.fields.Pre.{Pre}
-use Rattle.version_parts.specs.declared.fields.MaybeNumber.{MaybeNumber}
 use Rattle.version_reading.specs.Value.{LocalSegment, number, text, Value}
 use Rattle.version_normal.specs.Normal.{epoch_text, pre_text, part_text}
 
@@ -29,13 +28,13 @@ label_text [] = []
 label_text (x ∷ xs) = code "+" ∷ joined_all (map word (x ∷ xs))
 
 -- what stands from the development release on, from the post-release on, and from the pre-release on
-abbrev pub from_dev : MaybeNumber → List LocalSegment → List ℕ
+abbrev pub from_dev : Option ℕ → List LocalSegment → List ℕ
 from_dev dev label = part_text (ascii ".dev") dev ++ label_text label
 
-abbrev pub from_post : MaybeNumber → MaybeNumber → List LocalSegment → List ℕ
+abbrev pub from_post : Option ℕ → Option ℕ → List LocalSegment → List ℕ
 from_post post dev label = part_text (ascii ".post") post ++ from_dev dev label
 
-abbrev pub from_pre : Pre → MaybeNumber → MaybeNumber → List LocalSegment → List ℕ
+abbrev pub from_pre : Option (PreKind × ℕ) → Option ℕ → Option ℕ → List LocalSegment → List ℕ
 from_pre pre post dev label = pre_text pre ++ from_post post dev label
 
 unfoldable pub value_text : Value → List ℕ

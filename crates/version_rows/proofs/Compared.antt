@@ -1,5 +1,6 @@
 -- Rows compare, number by number, as their versions do.
 -- Assumes nothing.
+use Rattle.std.specs.Prelude.{Option, None, Some}
 use mathlib.Core.Path.{◌≡◌, refl, sym, ◌∙◌}
 use mathlib.Core.List.{List}
 use Prim.Native.Nat.{ℕ, ◌-◌, ◌≤◌, compare}
@@ -11,11 +12,8 @@ use Rattle.order.proofs.Ordering.{also_assoc, also_eq}
 use Rattle.order.proofs.Numbers.{number_laws}
 use Rattle.order.proofs.Derived.{eq_left, eq_right}
 use Rattle.order.proofs.Padded.{padded_laws, padded_append, padded_continued}
-use Rattle.version_parts.specs.declared.fields.MaybeNumber.{MaybeNumber}
-use Rattle.version_parts.specs.declared.fields.MaybeNumber.TheVariants.{Absent as NoPart, Is as IsPart}
 use Rattle.version_reading.specs.Value.{Value}
 use Rattle.version_order.specs.declared.key.Key.{Key}
-use Rattle.version_order.specs.Key.{post_option}
 use Rattle.version_order.specs.Versions.{compare_release, compare_key, compare_public, key}
 use Rattle.version_rows.specs.Row.{post_mark, post_number, key_numbers, sixteen, row_of, RowOf}
 
@@ -28,12 +26,12 @@ sixteen_compare a b =
 pub sixteen_long : (a : List ℕ) → length a ≤ 16 → length (sixteen a) ≡ 16
 sixteen_long a h = omega (arith, length-append a (replicate (16 - length a) 0), length-replicate {A = ℕ} (16 - length a) 0)
 
-post_compare : (p q : MaybeNumber)
-    → option compare (post_option p) (post_option q) ≡ also (compare (post_mark p) (post_mark q)) (compare (post_number p) (post_number q))
-post_compare NoPart NoPart = refl
-post_compare NoPart (IsPart n) = refl
-post_compare (IsPart m) NoPart = refl
-post_compare (IsPart m) (IsPart n) = refl
+post_compare : (p q : Option ℕ)
+    → option compare p q ≡ also (compare (post_mark p) (post_mark q)) (compare (post_number p) (post_number q))
+post_compare None None = refl
+post_compare None (Some n) = refl
+post_compare (Some m) None = refl
+post_compare (Some m) (Some n) = refl
 
 key_compare : (k l : Key) → padded compare 0 (key_numbers k) (key_numbers l) ≡ compare_key k l
 unfolding compare_key

@@ -1,5 +1,6 @@
 -- The ways of the functions that read numbers and parts as a normal text writes them.
 -- Assumes nothing.
+use Rattle.std.specs.Prelude.{None, Some}
 use mathlib.Core.Path.{◌≡◌, refl, sym, ◌∙◌, ap}
 use mathlib.Core.Bool.{Bool, false, not}
 use mathlib.Core.List.{List, [], ◌∷◌, ◌++◌, append_assoc}
@@ -11,7 +12,6 @@ use lib.Seq.{drop-cons, drop-drop}
 use borrow.Author.Tests.{not-false}
 use Rattle.decimal.specs.Digits.{figure, decimal}
 use Rattle.decimal.proofs.Figures.{one_digit, more_digits}
-use Rattle.version_parts.specs.declared.fields.MaybeNumber.TheVariants.{Absent, Is}
 use Rattle.chars.specs.Same.{same_bytes}
 use Rattle.chars.proofs.SameBytes.{same_is}
 use Rattle.version_rows.specs.declared.figures.PartAt.{PartAt}
@@ -48,13 +48,13 @@ module _ (s : List ℕ) (at b : ℕ) (is : b ≡ get_or s at 0) (inside : b ≤ 
         fits = p.fits;
       }
 
-pub no_part : (s name : List ℕ) (at : ℕ) → at ≤ length s → PartRead s (drop at s) name (record { part = Absent; next = at })
+pub no_part : (s name : List ℕ) (at : ℕ) → at ≤ length s → PartRead s (drop at s) name (record { part = None; next = at })
 no_part s name at inside = record { written = refl; within = inside; fits = tt }
 
 -- a name, and the number after it
 pub part_after : (s name : List ℕ) (at n : ℕ) (same : Bool) (r : PartAt) →
     same ≡ same_bytes (take (at + length name - at) (drop at s)) name → not same ≡ false →
-    PartRead s (drop (at + length name) s) [] r → r.part ≡ Is n → PartRead s (drop at s) name r
+    PartRead s (drop (at + length name) s) [] r → r.part ≡ Some n → PartRead s (drop at s) name r
 part_after s name at n same r e f p g =
     let named : take (at + length name - at) (drop at s) ≡ name = same_is _ name (sym e ∙ not-false same f) in
     let size : at + length name - at ≡ length name = omega arith in

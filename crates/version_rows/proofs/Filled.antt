@@ -1,13 +1,13 @@
 -- The ways of the functions that make rows: the release's numbers in a row of zeros.
 -- Assumes nothing.
-use mathlib.Core.Path.{◌≡◌, refl, sym, ◌∙◌, ap}
+use mathlib.Core.Path.{◌≡◌, sym, ◌∙◌, ap}
 use mathlib.Core.List.{List, [], ◌∷◌, ◌++◌, append_assoc}
-use Prim.Native.Nat.{ℕ, zero, suc, ◌+◌, ◌-◌, ◌≤◌, ◌<◌, min}
+use Prim.Native.Nat.{ℕ, zero, suc, ◌+◌, ◌-◌, ◌≤◌, min}
 use native.Mathlib.Nat.{sub-zero}
-use native.Mathlib.Numerals.{add-one}
 use native.Mathlib.Omega.{arith}
-use lib.ListN.{length, take, drop, get_or, set, replicate, length-replicate}
-use lib.Seq.{paste, paste-suc, length-take-le, drop-append-le}
+use lib.ListN.{length, take, drop, replicate, length-replicate}
+use lib.Seq.{length-take-le, drop-append-le}
+use borrow.Rule.Slice.PartMut.{put_mid}
 use Rattle.version_parts.specs.declared.fields.Version.{Version}
 use Rattle.version_reading.specs.declared.plain.Plain.{Plain}
 use Rattle.version_reading.specs.Plain.{Filled, FilledPlain, whole_version}
@@ -24,42 +24,31 @@ pub four_put : (epoch first second third fourth e a b c d mark number : ℕ) (k 
     ≡ epoch ∷ first ∷ second ∷ third ∷ fourth ∷ (replicate 12 0 ++ key_numbers k)
 four_put epoch first second third fourth e a b c d mark number k p q r s t f g = rw (p, q, r, s, t, f, g)
 
--- one release number more
-pub release_turn : (row numbers filled : List ℕ) (i count n : ℕ) → filled ≡ paste row 1 numbers i → length row ≡ 22
-    → length numbers ≡ 16 → i < count → count ≡ min n 16
-    → set filled (1 + i) (get_or numbers i 0) ≡ paste row 1 numbers (i + 1)
-release_turn row numbers filled i count n e h k l m =
-    rw (e, add-one i) (paste-suc row 1 numbers i 0 (omega arith) (omega (arith, k)))
-
-pub release_end : (row numbers filled : List ℕ) (i count n : ℕ) → filled ≡ paste row 1 numbers i → i ≤ count → count ≤ i → count ≡ min n 16
-    → filled ≡ paste row 1 numbers (min n 16)
-release_end row numbers filled i count n e h k m = let all : i ≡ min n 16 = omega arith in rw all at e
-
 drop_replicate : (n m x : ℕ) → drop n (replicate m x) ≡ replicate (m - n) x
 drop_replicate zero m x = rw (sub-zero m)
 drop_replicate (suc n) zero x = let none : 0 - suc n ≡ 0 = omega arith in rw none
 drop_replicate (suc n) (suc m) x = let same : suc m - suc n ≡ m - n = omega arith in rw same (drop_replicate n m x)
 
-filled_row : (epoch n : ℕ) (k l : List ℕ) → length l ≡ 16 → n ≤ 16
-    → paste (epoch ∷ (replicate 16 0 ++ k)) 1 l n ≡ epoch ∷ (sixteen (take n l) ++ k)
+filled_row : (epoch n : ℕ) (k l : List ℕ) → length l ≡ n → n ≤ 16
+    → put_mid 1 n (epoch ∷ (replicate 16 0 ++ k)) l ≡ epoch ∷ (sixteen l ++ k)
 filled_row epoch n k l s h =
-    let one : 1 + n ≡ suc n = omega arith in
     let zeros : drop n (replicate 16 0 ++ k) ≡ replicate (16 - n) 0 ++ k =
     drop-append-le n (replicate 16 0) k (rw (length-replicate {A = ℕ} 16 0) h) ∙ rw (drop_replicate n 16 0) in
-    rw (one, zeros, length-take-le n l (omega arith)) (ap (λ (t : List ℕ). epoch ∷ t) (sym (append_assoc (take n l) (replicate (16 - n) 0) k)))
+    rw (zeros, s) (ap (λ (t : List ℕ). epoch ∷ t) (sym (append_assoc l (replicate (16 - n) 0) k)))
 
--- the way of `row_of`
-pub row_filled : (v : Version) (k : Key) (blank r : List ℕ) → length v.release.numbers ≡ 16
+-- the way of `row_of`: `part` is the numbers that count, and they were copied over as many zeros
+pub row_filled : (v : Version) (k : Key) (count : ℕ) (blank part : List ℕ) → length v.release.numbers ≡ 16 → count ≡ min v.release.len 16
     → k ≡ key_of v.pre v.post v.dev → blank ≡ v.epoch ∷ (replicate 16 0 ++ key_numbers k)
-    → r ≡ paste blank 1 v.release.numbers (min v.release.len 16) → RowOf (value_of [] v) r
+    → part ≡ take count v.release.numbers → RowOf (value_of [] v) (put_mid 1 (1 + count - 1) blank part)
 unfolding row_of value_of
-row_filled v k blank r s g e f =
-    let long : length v.release.numbers ≡ 16 = s in
-    let count : min v.release.len 16 ≤ 16 = omega arith in
-    let those = counted v.release.numbers v.release.len (min v.release.len 16) s refl in
+row_filled v k count blank part s c g e f =
+    let few : count ≤ 16 = omega arith in
+    let long : length part ≡ count = rw f (length-take-le count v.release.numbers (omega (arith, s))) in
+    let those : part ≡ take v.release.len v.release.numbers = f ∙ counted v.release.numbers v.release.len count s c in
+    let size : 1 + count - 1 ≡ count = omega arith in
     record {
-      is = f ∙ rw (e, g, filled_row v.epoch (min v.release.len 16) _ v.release.numbers long count, those);
-      few = rw (← those, length-take-le (min v.release.len 16) v.release.numbers (omega arith)) count;
+      is = rw (size, e, g, filled_row v.epoch count _ part long few, those);
+      few = rw (← those, long) few;
     }
 
 -- of the four numbers those that are there, continued with zeros

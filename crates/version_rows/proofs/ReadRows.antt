@@ -1,20 +1,21 @@
 -- The ways of the functions that read a text into a row, and what is known of such a row.
 -- Assumes nothing.
 use mathlib.Core.Path.{◌≡◌, refl, sym, ◌∙◌, ap}
-use mathlib.Core.Bool.{Bool, true, false}
+use mathlib.Core.Bool.{Bool, false}
 use mathlib.Core.List.{List, []}
 use Prim.Native.Nat.{ℕ, ◌≤◌}
 use native.Mathlib.Omega.{arith}
 use lib.ListN.{length}
 use Rattle.answers.specs.declared.Refusal.{Refusal}
-use Rattle.version_reading.specs.declared.plain.PlainReading.{PlainReading}
+use Rattle.std.specs.Prelude.{Option, Some}
+use Rattle.version_reading.specs.declared.plain.Plain.{Plain}
 use Rattle.version_reading.specs.declared.text.Verdict.{Verdict}
 use Rattle.version_reading.specs.declared.text.Verdict.TheVariants.{Accepted, Refused}
 use Rattle.version_reading.specs.declared.text.PatternReading.{PatternReading}
-use Rattle.version_reading.specs.Plain.{plain_of, whole_version}
+use Rattle.version_reading.specs.Plain.{plain_of, PlainRead, whole_version}
 use Rattle.version_reading.specs.Reading.{pattern_as, pattern_of, version_of, Read}
 use Rattle.version_reading.specs.Value.{Value, value_of, value_in}
-use Rattle.version_reading.proofs.PlainRead.{plain_said}
+use Rattle.version_reading.proofs.PlainRead.{plain_said, said_filled}
 use Rattle.version_reading.proofs.Values.{release_count}
 use Rattle.version_roundtrip.proofs.Read.{pattern_shape, release_shape}
 use Rattle.version_rows.specs.declared.read.PatternRow.{PatternRow}
@@ -35,13 +36,13 @@ pub ruled_row : (wildcards : Bool) (s old new : List ℕ) (read : PatternReading
 ruled_row wildcards s old new read p e = record { is = ap pattern_row p.is; leaves = rw p.is at e; few = p.few; near = p.near }
 
 -- by the quick way
-module _ (wildcards : Bool) (s old new : List ℕ) (read : PlainReading) (e : read ≡ plain_of s) (found : read.found ≡ true) (few : read.plain.count ≤ 4)
-    (row : RowOf (value_of [] (whole_version read.plain)) new) where
-  pub plain_row : PatternRowRead (pattern_as wildcards s) old new (record { verdict = Accepted; wildcard = false; count = read.plain.count; labelled = false })
+module _ (wildcards : Bool) (s old new : List ℕ) (read : Option Plain) (v : Plain) (p : PlainRead (plain_of s) read) (found : read ≡ Some v)
+    (row : RowOf (value_of [] (whole_version v)) new) where
+  pub plain_row : PatternRowRead (pattern_as wildcards s) old new (record { verdict = Accepted; wildcard = false; count = v.count; labelled = false })
   plain_row = record {
-    is = rw (plain_said wildcards s read e found);
-    leaves = rw (plain_said wildcards s read e found) row.is;
-    few = omega arith;
+    is = rw (plain_said wildcards s read v p.is found);
+    leaves = rw (plain_said wildcards s read v p.is found) row.is;
+    few = omega (arith, (said_filled p found).few);
     near = omega arith;
   }
 

@@ -1,15 +1,16 @@
 -- Two results that meet one statement are the same, and so are two rows that are left. Comparing rows and holding one against a prefix are
 -- plain equations.
 -- Assumes nothing.
-use mathlib.Core.Path.{◌≡◌, sym, ◌∙◌}
+use Rattle.std.specs.Prelude.{Option, None, Some}
+use mathlib.Core.Path.{◌≡◌, refl, sym, ◌∙◌}
 use mathlib.Core.Bool.{Bool}
-use mathlib.Core.List.{List}
+use mathlib.Core.List.{List, []}
 use Prim.Native.Nat.{ℕ}
 use Rattle.version_reading.specs.declared.text.Verdict.{Verdict}
 use Rattle.version_reading.specs.declared.text.PatternReading.{PatternReading}
-use Rattle.version_reading.specs.Value.{Value}
+use Rattle.version_parts.specs.declared.fields.Version.{Version}
+use Rattle.version_reading.specs.Value.{Value, value_of}
 use Rattle.version_rows.specs.declared.read.PatternRow.{PatternRow}
-use Rattle.version_rows.specs.declared.normal.NormalReading.{NormalReading}
 use Rattle.version_rows.specs.Row.{RowOf}
 use Rattle.version_rows.specs.Read.{RowRead, PatternRowRead}
 use Rattle.version_rows.specs.Normal.{NormalRead, NormalRow}
@@ -28,8 +29,8 @@ pub one_pattern_row : {p : PatternReading} {old new new' : List ℕ} {r q : Patt
     PatternRowRead p old new r → PatternRowRead p old new' q → (r ≡ q) × (new ≡ new')
 one_pattern_row a b = (a.is ∙ sym b.is, a.leaves ∙ sym b.leaves)
 
-pub one_normal_reading : {s : List ℕ} {r q : NormalReading} → NormalRead s r → NormalRead s q → r ≡ q
-one_normal_reading a b =
-    let valid = a.is ∙ sym b.is in
-    let version = a.fields ∙ sym b.fields in
-    λ i. record { valid = valid i; version = version i }
+pub one_normal_reading : {s : List ℕ} {r q : Option Version} → NormalRead s r → NormalRead s q → r ≡ q
+one_normal_reading {s} {r = None} {q = None} a b = refl
+one_normal_reading {s} {r = None} {q = Some w} a b = let e : None ≡ Some (value_of [] w) = a.said ∙ sym b.said in cc
+one_normal_reading {s} {r = Some v} {q = None} a b = let e : Some (value_of [] v) ≡ None = a.said ∙ sym b.said in cc
+one_normal_reading {s} {r = Some v} {q = Some w} a b = let e : v ≡ w = a.fields ∙ sym b.fields in rw e

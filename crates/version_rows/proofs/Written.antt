@@ -1,8 +1,8 @@
 -- What is known of normal texts: those that were written, and those that are found.
 -- Assumes nothing.
-use mathlib.Core.Path.{◌≡◌, refl, sym, ◌∙◌, ap, subst}
+use Rattle.std.specs.Prelude.{Option, None, Some}
+use mathlib.Core.Path.{◌≡◌, refl, ◌∙◌, ap, subst}
 use mathlib.Core.List.{List}
-use mathlib.Core.Option.{Option, none, some, some-injective, some-ne-none}
 use Prim.Native.Nat.{ℕ, ◌≤◌}
 use lib.Dec.{eqb}
 use lib.ListN.{length}
@@ -22,7 +22,7 @@ use Rattle.version_roundtrip.proofs.Roundtrip.{normal_of_value, accepted_readabl
 use Rattle.version_roundtrip.proofs.Unlabelled.{unlabelled_reads_back}
 use Rattle.version_rows.specs.Normal.{in_normal_text, normal_value}
 
-pub normal_here : (v : Value) → Writable v → normal_value (value_text v) ≡ some v
+pub normal_here : (v : Value) → Writable v → normal_value (value_text v) ≡ Some v
 unfolding normal_value
 normal_here v w =
     let back = unlabelled_reads_back v w.readable w.unlabelled in
@@ -31,15 +31,21 @@ normal_here v w =
     no_segment (value_text v) (version_of (value_text v)).version (ap (λ x. x.label) back.1 ∙ w.unlabelled) in
     rw (back.0, bare, text, same_self (value_text v), back.1)
 
+no_value : (v : Value) → None ≡ Some v → ⊥
+no_value v e = cc
+
+same_value : (v w : Value) → Some v ≡ Some w → v ≡ w
+same_value v w e = cc
+
 -- and what is found is the value of such a text
 module _ (text : List ℕ) (v : Value) where
   abbrev Right : Option Value → Type 0
-  Right o = o ≡ some v → Writable v
+  Right o = o ≡ Some v → Writable v
 
-  nothing : Right none
-  nothing e = absurd (some-ne-none v (sym e))
+  nothing : Right None
+  nothing e = absurd (no_value v e)
 
-  pub normal_writable : normal_value text ≡ some v → Writable v
+  pub normal_writable : normal_value text ≡ Some v → Writable v
   unfolding normal_value
   normal_writable = go (version_of text).verdict refl
     where
@@ -48,7 +54,7 @@ module _ (text : List ℕ) (v : Value) where
       go Accepted e =
           by_cond Right (eqb (version_of text).version.local.len 0)
           (λ f. by_cond Right (same_bytes (normal_text text) text)
-          (λ g same. subst Writable (some-injective (value_in text) v same) (record {
+          (λ g same. subst Writable (same_value (value_in text) v same) (record {
             readable = accepted_readable text e;
             unlabelled = no_label_lem text (version_of text).version (eqb-true _ _ f);
           }))
@@ -56,5 +62,5 @@ module _ (text : List ℕ) (v : Value) where
           (λ f. nothing)
 
   -- there is room for its release in a row
-  pub normal_few : normal_value text ≡ some v → length v.release ≤ 16
+  pub normal_few : normal_value text ≡ Some v → length v.release ≤ 16
   normal_few e = (normal_writable e).readable.few

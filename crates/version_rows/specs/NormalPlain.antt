@@ -1,12 +1,11 @@
 -- What the quick way finds in a normal text: its parts, and the plain version that they make. What is found is right (`normal_value`); nothing
 -- is said of what is not found.
-use Rattle.std.specs.Prelude.{◌≡◌, true, List, [], ◌∷◌, ◌++◌, map, ℕ, ◌≤◌, length, take, drop, replicate}
-use Rattle.std.proofs.Math.Option.{some}
+use Rattle.std.specs.Prelude.{◌≡◌, List, [], ◌∷◌, ◌++◌, map, ℕ, ◌≤◌, length, take, drop, replicate, Option, Some, IfSome}
 use Prim.Native.Char.{code}
 use Rattle.order.specs.All.{All}
 use Rattle.decimal.specs.Digits.{decimal}
 use Rattle.version_reading.specs.declared.plain.PlainHead.{PlainHead}
-use Rattle.version_reading.specs.declared.plain.PlainReading.{PlainReading}
+use Rattle.version_reading.specs.declared.plain.Plain.{Plain}
 use Rattle.version_reading.specs.Plain.{Filled, FilledPlain, whole_version}
 use Rattle.version_reading.specs.Value.{value_of}
 use Rattle.version_normal.specs.Normal.{pre_text, part_text}
@@ -45,6 +44,10 @@ pub record HeadRead (s : List ℕ) (r : PlainHead) : Type 0 where
   pub few : r.count ≤ 4
   pub filled : Filled r.count r.first r.second r.third r.fourth
 
-pub record NormalPlainRead (s : List ℕ) (r : PlainReading) : Type 0 where
-  pub said : r.found ≡ true → normal_value s ≡ some (value_of [] (whole_version r.plain))
-  pub filled : FilledPlain r.plain
+-- s is the normal text of the plain version
+pub record NormalPlain (s : List ℕ) (v : Plain) : Type 0 where
+  pub said : normal_value s ≡ Some (value_of [] (whole_version v))
+  pub filled : FilledPlain v
+
+abbrev pub NormalPlainRead : List ℕ → Option Plain → Type 0
+NormalPlainRead s r = IfSome r (NormalPlain s)

@@ -1,20 +1,18 @@
 -- A version as a row of 22 numbers, which compare number by number as the versions do. The label is left out.
-use Rattle.std.specs.Prelude.{◌≡◌, Bool, List, [], ◌∷◌, ◌++◌, ℕ, suc, ◌-◌, ◌≤◌, min, length, take, replicate}
-use Rattle.version_parts.specs.declared.fields.MaybeNumber.{MaybeNumber}
-use Rattle.version_parts.specs.declared.fields.MaybeNumber.TheVariants.{Absent as NoPart, Is as IsPart}
+use Rattle.std.specs.Prelude.{◌≡◌, Bool, List, [], ◌∷◌, ◌++◌, ℕ, suc, ◌-◌, ◌≤◌, min, length, take, replicate, Option, None, Some}
 use Rattle.version_reading.specs.Value.{Value}
 use Rattle.version_order.specs.declared.key.Key.{Key}
 use Rattle.version_order.specs.Versions.{key}
 use Rattle.version_prefix.specs.Prefix.{begins}
 
 -- a missing post is below any post
-abbrev pub post_mark : MaybeNumber → ℕ
-post_mark NoPart = 0
-post_mark (IsPart n) = 1
+abbrev pub post_mark : Option ℕ → ℕ
+post_mark None = 0
+post_mark (Some n) = 1
 
-abbrev pub post_number : MaybeNumber → ℕ
-post_number NoPart = 0
-post_number (IsPart n) = n
+abbrev pub post_number : Option ℕ → ℕ
+post_number None = 0
+post_number (Some n) = n
 
 -- what decides after the release: kind, pre, whether there is a post, post, dev
 abbrev pub key_numbers : Key → List ℕ

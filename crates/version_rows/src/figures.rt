@@ -6,12 +6,11 @@ ghost use Rattle.version_rows.specs.NormalPlain.{PartRead};
 use chars::place::byte_at;
 use chars::same::same_bytes;
 use decimal::parse::LARGEST;
-use version_parts::fields::MaybeNumber;
 
-// A part that stands at a place, and the place after it; where there is none, the place itself.
+// A part that stands at a place, and the place after it; where there is none, the place itself. No pair: contracts say `part` and `next`.
 #[derive(Clone, Copy)]
 pub struct PartAt {
-    pub part: MaybeNumber,
+    pub part: Option<u64>,
     pub next: usize,
 }
 
@@ -21,34 +20,26 @@ fn more_figures(s: &[u8], first: u64, at: usize) -> PartAt
     ensures { PartRead s.now (decimal first ++ drop at s.now) [] result }
 {
     let mut value = first;
-    let mut i = at;
-    while i < s.len() {
+    for i in at..s.len() {
         let b = s[i];
-        if b < b'0' {
+        if !b.is_ascii_digit() {
             return PartAt {
-                part: MaybeNumber::Is(value),
-                next: i,
-            };
-        }
-        if b'9' < b {
-            return PartAt {
-                part: MaybeNumber::Is(value),
+                part: Some(value),
                 next: i,
             };
         }
         let digit = (b - b'0') as u64;
         if (LARGEST - digit) / 10 < value {
             return PartAt {
-                part: MaybeNumber::Is(value),
+                part: Some(value),
                 next: i,
             };
         }
         value = value * 10 + digit;
-        i += 1;
     }
     PartAt {
-        part: MaybeNumber::Is(value),
-        next: i,
+        part: Some(value),
+        next: s.len(),
     }
 }
 
@@ -58,15 +49,9 @@ pub(crate) fn figures_at(s: &[u8], at: usize) -> PartAt
     ensures { PartRead s.now (drop at s.now) [] result }
 {
     let b = byte_at(s, at);
-    if b < b'0' {
+    if b < b'0' || b'9' < b {
         return PartAt {
-            part: MaybeNumber::Absent,
-            next: at,
-        };
-    }
-    if b'9' < b {
-        return PartAt {
-            part: MaybeNumber::Absent,
+            part: None,
             next: at,
         };
     }
@@ -74,7 +59,7 @@ pub(crate) fn figures_at(s: &[u8], at: usize) -> PartAt
         return more_figures(s, (b - b'0') as u64, at + 1);
     }
     PartAt {
-        part: MaybeNumber::Is(0),
+        part: Some(0),
         next: at + 1,
     }
 }
@@ -85,7 +70,7 @@ pub(crate) fn part_at(s: &[u8], at: usize, name: &[u8]) -> PartAt
     ensures { PartRead s.now (drop at s.now) name.now result }
 {
     let none = PartAt {
-        part: MaybeNumber::Absent,
+        part: None,
         next: at,
     };
     if s.len() - at < name.len() {
@@ -96,9 +81,8 @@ pub(crate) fn part_at(s: &[u8], at: usize, name: &[u8]) -> PartAt
         return none;
     }
     let number = figures_at(s, digits);
-    let part = number.part;
-    match part {
-        MaybeNumber::Absent => none,
-        MaybeNumber::Is(_) => number,
+    match number.part {
+        None => none,
+        Some(_) => number,
     }
 }

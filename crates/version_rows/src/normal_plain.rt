@@ -8,12 +8,13 @@ ghost use Rattle.version_rows.specs.NormalPlain.{PreRead, TwoRead, HeadRead, Nor
 use crate::figures::{figures_at, part_at};
 use chars::place::byte_at;
 use chars::spelling::PreKind;
-use version_parts::fields::{MaybeNumber, Pre};
-use version_reading::plain::{PlainHead, PlainReading, found, not_found};
+use version_parts::fields::Pre;
+use version_reading::plain::{Plain, PlainHead, plain_with};
 
+// The same of a pre-release.
 #[derive(Clone, Copy)]
 pub struct PreAt {
-    pub pre: Pre,
+    pub pre: Option<Pre>,
     pub next: usize,
 }
 
@@ -22,17 +23,9 @@ fn pre_of(s: &[u8], at: usize, name: &[u8], kind: PreKind) -> PreAt
     ensures { PreRead s.now at result }
 {
     let read = part_at(s, at, name);
-    let part = read.part;
-    let next = read.next;
-    match part {
-        MaybeNumber::Absent => PreAt {
-            pre: Pre::Absent,
-            next,
-        },
-        MaybeNumber::Is(n) => PreAt {
-            pre: Pre::Is(kind, n),
-            next,
-        },
+    PreAt {
+        pre: read.part.map(|n| (kind, n)),
+        next: read.next,
     }
 }
 
@@ -40,8 +33,7 @@ fn pre_at(s: &[u8], at: usize) -> PreAt
     requires { at ≤ length s.now }
     ensures { PreRead s.now at result }
 {
-    let b = byte_at(s, at);
-    match b {
+    match byte_at(s, at) {
         b'a' => pre_of(s, at, b"a", PreKind::Alpha),
         b'b' => pre_of(s, at, b"b", PreKind::Beta),
         _ => pre_of(s, at, b"rc", PreKind::Rc),
@@ -67,13 +59,11 @@ fn after_second(s: &[u8], first: u64, second: u64, at: usize) -> PlainHead
     ensures { HeadRead s.now result }
 {
     let three = part_at(s, at, b".");
-    let part = three.part;
-    let MaybeNumber::Is(third) = part else {
+    let Some(third) = three.part else {
         return head(2, first, second, 0, 0, at);
     };
     let four = part_at(s, three.next, b".");
-    let part = four.part;
-    let MaybeNumber::Is(fourth) = part else {
+    let Some(fourth) = four.part else {
         return head(3, first, second, third, 0, three.next);
     };
     head(4, first, second, third, fourth, four.next)
@@ -84,20 +74,18 @@ fn head_of(s: &[u8]) -> PlainHead
     ensures { HeadRead s.now result }
 {
     let one = figures_at(s, 0);
-    let part = one.part;
-    let MaybeNumber::Is(first) = part else {
+    let Some(first) = one.part else {
         return head(0, 0, 0, 0, 0, 0);
     };
     let two = part_at(s, one.next, b".");
-    let part = two.part;
-    let MaybeNumber::Is(second) = part else {
+    let Some(second) = two.part else {
         return head(1, first, 0, 0, 0, one.next);
     };
     after_second(s, first, second, two.next)
 }
 
 // A suffix after the release, and nothing after it.
-fn suffixed(s: &[u8], head: PlainHead) -> PlainReading
+fn suffixed(s: &[u8], head: PlainHead) -> Option<Plain>
     requires { HeadRead s.now head × (head.count ≡ 0 → ⊥) }
     ensures { NormalPlainRead s.now result }
 {
@@ -105,24 +93,21 @@ fn suffixed(s: &[u8], head: PlainHead) -> PlainReading
     let post_read = part_at(s, pre_read.next, b".post");
     let dev_read = part_at(s, post_read.next, b".dev");
     if dev_read.next != s.len() {
-        return not_found();
+        return None;
     }
-    let pre = pre_read.pre;
-    let post = post_read.part;
-    let dev = dev_read.part;
-    found(head, pre, post, dev)
+    Some(plain_with(head, pre_read.pre, post_read.part, dev_read.part))
 }
 
 // The plain version whose normal text `s` is, if it is found.
-pub fn read_normal_plain(s: &[u8]) -> PlainReading
+pub fn read_normal_plain(s: &[u8]) -> Option<Plain>
     ensures { NormalPlainRead s.now result }
 {
     let head = head_of(s);
     if head.count == 0 {
-        return not_found();
+        return None;
     }
     if head.at == s.len() {
-        return found(head, Pre::Absent, MaybeNumber::Absent, MaybeNumber::Absent);
+        return Some(plain_with(head, None, None, None));
     }
     suffixed(s, head)
 }

@@ -31,11 +31,10 @@ fn row_by_rules(text: &[u8], wildcards: bool, row: &mut [u64; 22]) -> PatternRow
     ensures { PatternRowRead (pattern_as wildcards text.now) row.old row.new result }
 {
     let read = read_by_rules(text, wildcards);
-    let verdict = read.verdict;
     let version = read.version;
-    put_accepted(verdict, version, row);
+    put_accepted(read.verdict, version, row);
     PatternRow {
-        verdict,
+        verdict: read.verdict,
         wildcard: read.wildcard,
         count: version.release.len,
         labelled: version.local.len != 0,
@@ -46,9 +45,7 @@ fn row_by_rules(text: &[u8], wildcards: bool, row: &mut [u64; 22]) -> PatternRow
 fn row_as(text: &[u8], wildcards: bool, row: &mut [u64; 22]) -> PatternRow
     ensures { PatternRowRead (pattern_as wildcards text.now) row.old row.new result }
 {
-    let read = read_plain(text);
-    if read.found {
-        let plain = read.plain;
+    if let Some(plain) = read_plain(text) {
         row_of_plain(plain, row);
         return PatternRow {
             verdict: Verdict::Accepted,

@@ -1,38 +1,34 @@
 // Making rows, and what two rows say of their versions.
-ghost use Rattle.std.specs.Prelude.{◌≡◌, [], ◌∷◌, ◌++◌, length, take, replicate};
-ghost use Prim.Native.Nat.{compare, min, ◌≤◌};
-ghost use Rattle.std.proofs.Math.Seq.{paste};
+ghost use Rattle.std.specs.Prelude.{◌≡◌, [], ◌∷◌, ◌++◌, replicate};
+ghost use Prim.Native.Nat.{compare};
 ghost use Rattle.order.specs.Answer.{name_of};
 ghost use Rattle.order.specs.Compare.{padded};
-ghost use Rattle.version_prefix.specs.Prefix.{begins};
 ghost use Rattle.version_reading.specs.Plain.{FilledPlain, whole_version};
 ghost use Rattle.version_reading.specs.Value.{value_of};
 ghost use Rattle.version_rows.specs.Row.{post_mark, post_number, key_numbers, RowOf, row_begins};
 
-use order::{Order, compare_numbers, smaller};
+use order::compare_numbers;
+use std::cmp::Ordering;
 use version_compare::key::{key_from, key_of};
 use version_order::key::Key;
-use version_parts::fields::{MaybeNumber, Release, Version};
+use version_parts::fields::Version;
 use version_prefix::prefix::begins_with;
 use version_reading::plain::Plain;
 
 // 1 where there is a post, so that a missing one is below post 0.
-fn post_mark(post: MaybeNumber) -> u64
+fn post_mark(post: Option<u64>) -> u64
     ensures { result ≡ post_mark post }
 {
     match post {
-        MaybeNumber::Absent => 0,
-        MaybeNumber::Is(_) => 1,
+        None => 0,
+        Some(_) => 1,
     }
 }
 
-fn post_number(post: MaybeNumber) -> u64
+fn post_number(post: Option<u64>) -> u64
     ensures { result ≡ post_number post }
 {
-    match post {
-        MaybeNumber::Absent => 0,
-        MaybeNumber::Is(n) => n,
-    }
+    post.unwrap_or(0)
 }
 
 // Leaves the epoch, four release numbers, zeros for the others, and the key.
@@ -47,7 +43,6 @@ fn put_four(
 )
     ensures { row.new ≡ epoch ∷ first ∷ second ∷ third ∷ fourth ∷ (replicate 12 0 ++ key_numbers key) }
 {
-    let post = key.post;
     *row = [0; 22];
     row[0] = epoch;
     row[1] = first;
@@ -56,32 +51,19 @@ fn put_four(
     row[4] = fourth;
     row[17] = key.kind;
     row[18] = key.pre;
-    row[19] = post_mark(post);
-    row[20] = post_number(post);
+    row[19] = post_mark(key.post);
+    row[20] = post_number(key.post);
     row[21] = key.dev;
-}
-
-// Stores the release numbers that count, after the epoch.
-fn put_release(row: &mut [u64], release: Release)
-    requires { length row.old ≡ 22 }
-    ensures { row.new ≡ paste row.old 1 release.numbers (min release.len 16) }
-{
-    let numbers = release.numbers;
-    let count = smaller(release.len, 16);
-    let mut i = 0;
-    while i < count {
-        row[1 + i] = numbers[i];
-        i += 1;
-    }
 }
 
 // Leaves the row of `version`.
 pub fn row_of(version: Version, row: &mut [u64; 22])
     ensures { RowOf (value_of [] version) row.new }
 {
-    let release = version.release;
+    let numbers = version.release.numbers;
+    let count = version.release.len.min(16);
     put_four(row, version.epoch, 0, 0, 0, 0, key_of(version));
-    put_release(row, release);
+    row[1..1 + count].copy_from_slice(&numbers[..count]);
 }
 
 // The same of a plain version, whose fields need not be laid out.
@@ -89,10 +71,7 @@ pub(crate) fn row_of_plain(plain: Plain, row: &mut [u64; 22])
     requires { FilledPlain plain }
     ensures { RowOf (value_of [] (whole_version plain)) row.new }
 {
-    let pre = plain.pre;
-    let post = plain.post;
-    let dev = plain.dev;
-    let key = key_from(pre, post, dev);
+    let key = key_from(plain.pre, plain.post, plain.dev);
     put_four(
         row,
         0,
@@ -105,23 +84,15 @@ pub(crate) fn row_of_plain(plain: Plain, row: &mut [u64; 22])
 }
 
 // How the version of the row `a` compares with that of `b`.
-pub fn compare_rows(a: &[u64; 22], b: &[u64; 22]) -> Order
+pub fn compare_rows(a: &[u64; 22], b: &[u64; 22]) -> Ordering
     ensures { result ≡ name_of (padded compare 0 a.now b.now) }
 {
     compare_numbers(a, b)
-}
-
-// Whether `numbers` begins with the first `count` of `prefix`.
-fn first_agree(prefix: &[u64], count: usize, numbers: &[u64]) -> bool
-    requires { count ≤ length prefix.now }
-    ensures { result ≡ begins (take count prefix.now) numbers.now }
-{
-    begins_with(numbers, &prefix[..count])
 }
 
 // Whether `row` has the epoch of `prefix` and the first `count` of its release numbers.
 pub fn row_begins(prefix: &[u64; 22], count: usize, row: &[u64; 22]) -> bool
     ensures { result ≡ row_begins count prefix.now row.now }
 {
-    first_agree(prefix, smaller(count, 16) + 1, row)
+    begins_with(row, &prefix[..=count.min(16)])
 }

@@ -1,5 +1,7 @@
--- The word beside a version's fields: 0 exactly where the version is not small. Where two versions have one, the words decide as the versions do.
+-- The word beside a version's fields: there exactly where the version is small. Where two versions have one, the words decide as the versions do.
 -- Assumes nothing.
+use Rattle.chars.specs.declared.spelling.PreKind.{PreKind}
+use Rattle.std.specs.Prelude.{Option, None, Some, Ok}
 use mathlib.Core.Path.{◌≡◌, refl, sym, ◌∙◌, ap}
 use mathlib.Core.Bool.{Bool, true, false, and-true}
 use mathlib.Core.List.{List, [], ◌∷◌}
@@ -7,14 +9,10 @@ use Prim.Native.Nat.{ℕ, zero, suc, ◌≤◌, compare, min}
 use native.Mathlib.Omega.{arith}
 use lib.Dec.{eqb, eqb-suc-zero}
 use lib.ListN.{length, get_or, take, replicate}
-use borrow.Author.Tests.{eq-eqb, ne_eqb, le-leb}
+use borrow.Author.Tests.{eq-eqb, le-leb}
 use Rattle.chars.specs.declared.spelling.PreKind.TheVariants.{Alpha, Beta, Rc}
-use Rattle.order.specs.declared.Order.{Order}
+use Rattle.std.specs.declared.cmp.Ordering.{Ordering as Order}
 use Rattle.order.specs.Answer.{name_of}
-use Rattle.version_parts.specs.declared.fields.Pre.{Pre}
-use Rattle.version_parts.specs.declared.fields.Pre.TheVariants.{Absent as NoPre, Is as IsPre}
-use Rattle.version_parts.specs.declared.fields.MaybeNumber.{MaybeNumber}
-use Rattle.version_parts.specs.declared.fields.MaybeNumber.TheVariants.{Absent as NoPart, Is as IsPart}
 use Rattle.version_parts.specs.declared.fields.Version.{Version}
 use Rattle.version_reading.specs.declared.plain.Plain.{Plain}
 use Rattle.version_reading.specs.Plain.{Filled, FilledPlain, whole_version}
@@ -25,18 +23,18 @@ use Rattle.version_compare.specs.Plain.{compare_numbers, compare_plains}
 use Rattle.version_compare.proofs.Plains.{plains_order}
 use Rattle.version_word.specs.declared.packed.Word.{Word}
 use Rattle.version_word.specs.Small.{small_release, only_suffix, small_suffix, no_label, is_small, release_word, word_of}
-use Rattle.version_word.specs.Beside.{word_if, word_beside, packed_word, word_of_plain}
-use Rattle.version_word.specs.Worded.{worded_if, worded, worded_by}
+use Rattle.version_word.specs.Beside.{word_is, word_if, word_beside, packed_word, word_of_plain}
+use Rattle.version_word.specs.Worded.{worded_if, worded}
 use Rattle.version_word.proofs.Words.{word_compare}
 
--- no version has the word 0, since no kind is 0
-kind_some : (pre : Pre) (post dev : MaybeNumber) → 1 ≤ kind_of pre post dev
-kind_some (IsPre Alpha n) post dev = omega arith
-kind_some (IsPre Beta n) post dev = omega arith
-kind_some (IsPre Rc n) post dev = omega arith
-kind_some NoPre (IsPart n) dev = omega arith
-kind_some NoPre NoPart (IsPart n) = omega arith
-kind_some NoPre NoPart NoPart = omega arith
+-- no version has the word 0, since no kind is 0: a caller of C takes it for none
+kind_some : (pre : Option (PreKind × ℕ)) (post dev : Option ℕ) → 1 ≤ kind_of pre post dev
+kind_some (Some (Alpha, n)) post dev = omega arith
+kind_some (Some (Beta, n)) post dev = omega arith
+kind_some (Some (Rc, n)) post dev = omega arith
+kind_some None (Some n) dev = omega arith
+kind_some None None (Some n) = omega arith
+kind_some None None None = omega arith
 
 pub word_some : (v : Value) → 1 ≤ word_of v
 unfolding word_of
@@ -44,32 +42,29 @@ word_some v =
     let some = kind_some v.pre v.post v.dev in
     omega arith
 
--- so that the word 0 answers that there is none
-pub beside_answer : (v : Value) → worded_by (word_beside v) ≡ worded v
-unfolding worded_by word_beside worded
+-- as an answer
+pub beside_answer : (v : Value) → Ok (word_beside v) ≡ worded v
+unfolding word_beside worded
 beside_answer v = go (is_small v)
   where
-    some : word_of v ≡ 0 → ⊥
-    some e = omega (arith, word_some v)
-
-    go : (b : Bool) → worded_by (word_if b (word_of v)) ≡ worded_if b (word_of v)
-    go true = rw (ne_eqb (word_of v) 0 some)
+    go : (b : Bool) → Ok (word_if b (word_of v)) ≡ worded_if b (word_of v)
+    go true = refl
     go false = refl
 
--- a version with another word than 0 is small, and has that word
-pub beside_small : (v : Value) (m : Word) → m ≡ word_beside v → (m.0 ≡ 0 → ⊥) → (is_small v ≡ true) × (m.0 ≡ word_of v)
+-- a version with a word is small, and the word is its sum
+pub beside_small : (v : Value) (m : Word) → Some m ≡ word_beside v → (is_small v ≡ true) × (m.0 ≡ word_of v)
 unfolding word_beside
-beside_small v m e some = go (is_small v) e
+beside_small v m e = go (is_small v) e
   where
-    go : (b : Bool) → m ≡ word_if b (word_of v) → (b ≡ true) × (m.0 ≡ word_of v)
-    go true f = (refl, rw f)
-    go false f = absurd (some (rw f))
+    go : (b : Bool) → Some m ≡ word_if b (word_of v) → (b ≡ true) × (m.0 ≡ word_of v)
+    go true f = let k : m ≡ word_is (word_of v) = cc in (refl, ap (λ (w : Word). w.0) k)
+    go false f = (cc, cc)
 
-pub words_decide : (v w : Value) (m n : Word) (r : Order) → m ≡ word_beside v → n ≡ word_beside w → (m.0 ≡ 0 → ⊥) → (n.0 ≡ 0 → ⊥) →
-    r ≡ name_of (compare m.0 n.0) → r ≡ name_of (compare_values v w)
-words_decide v w m n r e f g h k =
-    let a = beside_small v m e g in
-    let b = beside_small w n f h in
+pub words_decide : (v w : Value) (m n : Word) (r : Order) → Some m ≡ word_beside v → Some n ≡ word_beside w → r ≡ name_of (compare m.0 n.0) →
+    r ≡ name_of (compare_values v w)
+words_decide v w m n r e f k =
+    let a = beside_small v m e in
+    let b = beside_small w n f in
     k ∙ rw (a.1, b.1, word_compare v w a.0 b.0)
 
 -- a label of no segment is none, wherever it would lie
@@ -133,12 +128,12 @@ all_there v = record {
   dev = v.dev;
 }
 
-pub plain_words_decide : (v w : Plain) (m n : Word) (r : Order) → m ≡ word_of_plain v → n ≡ word_of_plain w → (m.0 ≡ 0 → ⊥) → (n.0 ≡ 0 → ⊥) →
-    r ≡ name_of (compare m.0 n.0) → r ≡ name_of (compare_plains v w)
+pub plain_words_decide : (v w : Plain) (one other : Option Word) (m n : Word) (r : Order) → one ≡ word_of_plain v → other ≡ word_of_plain w →
+    one ≡ Some m → other ≡ Some n → r ≡ name_of (compare m.0 n.0) → r ≡ name_of (compare_plains v w)
 unfolding word_of_plain compare_numbers compare_plains
-plain_words_decide v w m n r e f g h k =
+plain_words_decide v w one other m n r e f g h k =
     let whole : (v : Plain) → Value = λ v. value_of [] (whole_version (all_there v)) in
-    let one = plain_word [] (all_there v) (Filled.four refl) in
-    let other = plain_word [] (all_there w) (Filled.four refl) in
-    words_decide (whole v) (whole w) m n r (e ∙ one) (f ∙ other) g h k
+    let first = plain_word [] (all_there v) (Filled.four refl) in
+    let second = plain_word [] (all_there w) (Filled.four refl) in
+    words_decide (whole v) (whole w) m n r (sym g ∙ (e ∙ first)) (sym h ∙ (f ∙ second)) k
     ∙ ap name_of (plains_order [] [] (all_there v) (all_there w) (Filled.four refl) (Filled.four refl))

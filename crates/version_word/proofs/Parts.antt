@@ -1,5 +1,6 @@
 -- The ways of the functions that make the parts of a word.
 -- Assumes nothing.
+use Rattle.std.specs.Prelude.{Option, None, Some}
 use mathlib.Core.Path.{◌≡◌, sym}
 use mathlib.Core.List.{List}
 use Prim.Native.Nat.{ℕ, ◌+◌, ◌*◌, ◌≤◌, ◌<◌}
@@ -8,12 +9,6 @@ use lib.ListN.{length, get_or, take, length-take, get_or-eq_default}
 use lib.Seq.{get_or-take}
 use borrow.Author.Tests.{le-leb, lt-leb}
 use Rattle.chars.specs.declared.spelling.PreKind.{PreKind}
-use Rattle.version_parts.specs.declared.fields.Pre.{Pre}
-use Rattle.version_parts.specs.declared.fields.Pre.TheVariants.{Absent as NoPre, Is as IsPre}
-use Rattle.version_parts.specs.declared.fields.MaybeNumber.{MaybeNumber}
-use Rattle.version_parts.specs.declared.fields.MaybeNumber.TheVariants.{Absent as NoPart, Is as IsPart}
-use Rattle.version_word.specs.declared.small.Fitted.{Fitted}
-use Rattle.version_word.specs.declared.small.Fitted.TheVariants.{Fits, Large}
 use Rattle.version_word.specs.Small.{alone, only_suffix}
 use Rattle.version_word.specs.Fitted.{numbers_fitted, suffix_fitted}
 
@@ -30,45 +25,45 @@ module _ (l : List ℕ) (len at : ℕ) where
 
 -- four release numbers, as far as they were looked at
 module _ (a b c d : ℕ) where
-  pub first_large : 65535 < a → Large ≡ numbers_fitted a b c d
+  pub first_large : 65535 < a → None ≡ numbers_fitted a b c d
   first_large h = rw (lt-leb a 65535 h)
 
   module _ (ha : a ≤ 65535) where
-    pub second_large : 255 < b → Large ≡ numbers_fitted a b c d
+    pub second_large : 255 < b → None ≡ numbers_fitted a b c d
     second_large h = rw (le-leb a 65535 ha, lt-leb b 255 h)
 
     module _ (hb : b ≤ 255) where
-      pub third_large : 255 < c → Large ≡ numbers_fitted a b c d
+      pub third_large : 255 < c → None ≡ numbers_fitted a b c d
       third_large h = rw (le-leb a 65535 ha, le-leb b 255 hb, lt-leb c 255 h)
 
       module _ (hc : c ≤ 255) where
-        pub fourth_large : 255 < d → Large ≡ numbers_fitted a b c d
+        pub fourth_large : 255 < d → None ≡ numbers_fitted a b c d
         fourth_large h = rw (le-leb a 65535 ha, le-leb b 255 hb, le-leb c 255 hc, lt-leb d 255 h)
 
-        pub numbers_fit : d ≤ 255 → Fits (a * 0x1000000000000 + b * 0x10000000000 + c * 0x100000000 + d * 0x1000000) ≡ numbers_fitted a b c d
+        pub numbers_fit : d ≤ 255 → Some (a * 0x1000000000000 + b * 0x10000000000 + c * 0x100000000 + d * 0x1000000) ≡ numbers_fitted a b c d
         numbers_fit h = rw (le-leb a 65535 ha, le-leb b 255 hb, le-leb c 255 hc, le-leb d 255 h)
 
 -- a suffix's number beside two parts that are not there
-module _ (n : ℕ) (a b : MaybeNumber) (e : a ≡ NoPart) (f : b ≡ NoPart) where
-  pub suffix_large : 2097151 < n → Large ≡ suffix_fitted (alone n a b)
+module _ (n : ℕ) (a b : Option ℕ) (e : a ≡ None) (f : b ≡ None) where
+  pub suffix_large : 2097151 < n → None ≡ suffix_fitted (alone n a b)
   suffix_large h = rw (e, f, lt-leb n 2097151 h)
 
-  pub suffix_fits : n ≤ 2097151 → Fits n ≡ suffix_fitted (alone n a b)
+  pub suffix_fits : n ≤ 2097151 → Some n ≡ suffix_fitted (alone n a b)
   suffix_fits h = rw (e, f, le-leb n 2097151 h)
 
 -- the parts, as far as they were looked at
-module _ (pre : Pre) (post dev : MaybeNumber) (r : Fitted) where
-  pub by_pre : (kind : PreKind) (n : ℕ) → pre ≡ IsPre kind n → r ≡ suffix_fitted (alone n post dev) →
+module _ (pre : Option (PreKind × ℕ)) (post dev : Option ℕ) (r : Option ℕ) where
+  pub by_pre : (kind : PreKind) (n : ℕ) → pre ≡ Some (kind, n) → r ≡ suffix_fitted (alone n post dev) →
       r ≡ suffix_fitted (only_suffix pre post dev)
   by_pre kind n e f = rw e f
 
-  pub by_post : (n : ℕ) → pre ≡ NoPre → post ≡ IsPart n → r ≡ suffix_fitted (alone n NoPart dev) →
+  pub by_post : (n : ℕ) → pre ≡ None → post ≡ Some n → r ≡ suffix_fitted (alone n None dev) →
       r ≡ suffix_fitted (only_suffix pre post dev)
   by_post n e f g = rw (e, f) g
 
-  pub by_dev : (n : ℕ) → pre ≡ NoPre → post ≡ NoPart → dev ≡ IsPart n → r ≡ suffix_fitted (alone n NoPart NoPart) →
+  pub by_dev : (n : ℕ) → pre ≡ None → post ≡ None → dev ≡ Some n → r ≡ suffix_fitted (alone n None None) →
       r ≡ suffix_fitted (only_suffix pre post dev)
   by_dev n e f g h = rw (e, f, g) h
 
-pub by_none : (pre : Pre) (post dev : MaybeNumber) → pre ≡ NoPre → post ≡ NoPart → dev ≡ NoPart → Fits 0 ≡ suffix_fitted (only_suffix pre post dev)
+pub by_none : (pre : Option (PreKind × ℕ)) (post dev : Option ℕ) → pre ≡ None → post ≡ None → dev ≡ None → Some 0 ≡ suffix_fitted (only_suffix pre post dev)
 by_none pre post dev e f g = rw (e, f, g)

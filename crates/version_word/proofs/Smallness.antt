@@ -1,9 +1,9 @@
 -- What a small version is, from the tests that say so.
 -- Assumes nothing.
+use Rattle.std.specs.Prelude.{Option, None, Some}
 use mathlib.Core.Path.{◌≡◌, refl}
 use mathlib.Core.Bool.{Bool, true, false, ◌&&◌}
 use mathlib.Core.List.{List, [], ◌∷◌}
-use mathlib.Core.Option.{Option, none, some}
 use Prim.Native.Nat.{ℕ, ◌<◌}
 use native.Mathlib.Omega.{arith}
 use lib.Dec.{eqb, leb}
@@ -24,12 +24,12 @@ no_segment (x ∷ l) e = cc
 -- the number of the suffix
 pub record Suffix (n : Option ℕ) : Type 0 where
   pub number : ℕ
-  pub is : n ≡ some number
+  pub is : n ≡ Some number
   pub small : number < 2097152
 
 suffix_of : (n : Option ℕ) → small_suffix n ≡ true → Suffix n
-suffix_of none e = record { number = 0; is = cc; small = omega arith }
-suffix_of (some n) e = record { number = n; is = refl; small = omega (arith, leb-true n 2097151 e) }
+suffix_of None e = record { number = 0; is = cc; small = omega arith }
+suffix_of (Some n) e = record { number = n; is = refl; small = omega (arith, leb-true n 2097151 e) }
 
 four_of : (r : List ℕ) → small_release r ≡ true → FourNumbers r
 unfolding small_release

@@ -1,10 +1,6 @@
 -- Small versions, and the word of one.
-use Rattle.std.specs.Prelude.{Bool, true, false, ◌&&◌, List, [], ◌∷◌, ℕ, ◌+◌, ◌*◌, ◌^◌, eqb, leb, length, get_or}
-use Rattle.std.proofs.Math.Option.{Option, none, some}
-use Rattle.version_parts.specs.declared.fields.Pre.{Pre}
-use Rattle.version_parts.specs.declared.fields.Pre.TheVariants.{Absent as NoPre, Is as IsPre}
-use Rattle.version_parts.specs.declared.fields.MaybeNumber.{MaybeNumber}
-use Rattle.version_parts.specs.declared.fields.MaybeNumber.TheVariants.{Absent as NoPart, Is as IsPart}
+use Rattle.chars.specs.declared.spelling.PreKind.{PreKind}
+use Rattle.std.specs.Prelude.{Bool, true, false, ◌&&◌, List, [], ◌∷◌, ℕ, ◌+◌, ◌*◌, ◌^◌, eqb, leb, length, get_or, None, Some, Option}
 use Rattle.version_reading.specs.Value.{LocalSegment, Value}
 use Rattle.version_order.specs.Key.{kind_of}
 
@@ -17,22 +13,22 @@ unfoldable pub small_release : List ℕ → Bool
 small_release r = leb (length r) 4 && small_numbers (get_or r 0 0) (get_or r 1 0) (get_or r 2 0) (get_or r 3 0)
 
 -- the number of a suffix, where neither of two others is there
-abbrev pub alone : ℕ → MaybeNumber → MaybeNumber → Option ℕ
-alone n NoPart NoPart = some n
-alone n NoPart (IsPart m) = none
-alone n (IsPart m) b = none
+abbrev pub alone : ℕ → Option ℕ → Option ℕ → Option ℕ
+alone n None None = Some n
+alone n None (Some m) = None
+alone n (Some m) b = None
 
 -- the number of the only suffix, 0 where there is none; nothing, where there are two and more
-abbrev pub only_suffix : Pre → MaybeNumber → MaybeNumber → Option ℕ
-only_suffix (IsPre kind n) post dev = alone n post dev
-only_suffix NoPre (IsPart n) dev = alone n NoPart dev
-only_suffix NoPre NoPart (IsPart n) = some n
-only_suffix NoPre NoPart NoPart = some 0
+abbrev pub only_suffix : Option (PreKind × ℕ) → Option ℕ → Option ℕ → Option ℕ
+only_suffix (Some (kind, n)) post dev = alone n post dev
+only_suffix None (Some n) dev = alone n None dev
+only_suffix None None (Some n) = Some n
+only_suffix None None None = Some 0
 
 -- at most one of pre, post, dev, its number at most 2097151
 abbrev pub small_suffix : Option ℕ → Bool
-small_suffix none = false
-small_suffix (some n) = leb n 2097151
+small_suffix None = false
+small_suffix (Some n) = leb n 2097151
 
 abbrev pub no_label : List LocalSegment → Bool
 no_label [] = true
@@ -44,8 +40,8 @@ is_small v =
     && (small_release v.release && (small_suffix (only_suffix v.pre v.post v.dev) && no_label v.label))
 
 abbrev pub or_zero : Option ℕ → ℕ
-or_zero none = 0
-or_zero (some n) = n
+or_zero None = 0
+or_zero (Some n) = n
 
 -- first·2^48 + second·2^40 + third·2^32 + fourth·2^24
 abbrev pub numbers_word : ℕ → ℕ → ℕ → ℕ → ℕ
@@ -55,7 +51,7 @@ unfoldable pub release_word : List ℕ → ℕ
 release_word r = numbers_word (get_or r 0 0) (get_or r 1 0) (get_or r 2 0) (get_or r 3 0)
 
 -- to the release's part, kind·2^21 + suffix number
-abbrev pub with_suffix : ℕ → Pre → MaybeNumber → MaybeNumber → ℕ
+abbrev pub with_suffix : ℕ → Option (PreKind × ℕ) → Option ℕ → Option ℕ → ℕ
 with_suffix release pre post dev = release + kind_of pre post dev * 2 ^ 21 + or_zero (only_suffix pre post dev)
 
 unfoldable pub word_of : Value → ℕ

@@ -1,21 +1,19 @@
--- Each way out and the turn itself are one law of proofs.Scans.antt.
-use Rattle.std.proofs.Common.{arith, refl}
-use Rattle.chars.proofs.Scans.{found_here, found_further, found_nowhere}
+-- The bytes that the chain takes are those before the first b.
+use Rattle.std.proofs.Common.{◌≡◌, ◌<◌, ◌∙◌, length, rules, tests, drop, nat_eq, not}
+use Rattle.std.proofs.lemmas.Iterator.{YieldsList-from_slice}
+use Rattle.std.proofs.lemmas.Iterator.Consumers.{count_from_yields_List}
+use Rattle.std.proofs.lemmas.Iterator.Search.{YieldsList-from_take_while}
+use Rattle.std.proofs.lemmas.List.Folds.{length-prefix_len}
+use Rattle.chars.proofs.Parts.{take_rest}
+use Rattle.chars.proofs.Scans.{found_as, found_past}
 use Rattle.chars.proofs.scan.find.Goals as goal
 
-pub loop-at-init : goal.loop-at-init
-loop-at-init c = (omega arith, omega arith, refl)
+pub returns-in-Some : goal.returns-in-Some
+returns-in-Some c =
+    let rest : c.in-Some.rest.now ≡ drop c.args.from c.args.s.now = c.in-Some.ensures.lookup.0.2 ∙ take_rest c.args.s.now c.args.from in
+    found_as _ _ _ _ _ rest (count_from_yields_List c.take_while.result _ c.count.ensures.ran (YieldsList-from_take_while _ (λ x. not (nat_eq x c.args.b)) (YieldsList-from_slice c.in-Some.rest.now cc) c.take_while.ensures.closure c.take_while.ensures.done (λ x b q k. search (rules, tests))) ∙ length-prefix_len (λ x. not (nat_eq x c.args.b)) c.in-Some.rest.now)
 
-pub returns-then-s-at : goal.returns-then-s-at
-returns-then-s-at c =
-    record { is = omega (arith, c.loop-at.invariant.2, found_here c.args.s.now c.loop-at.at c.args.b c.loop-at-test.true c.if-s-at.true); within = omega arith }
-
-pub loop-at-preserved : goal.loop-at-preserved
-loop-at-preserved c = (
-  omega arith,
-  omega arith,
-  omega (arith, c.loop-at.invariant.2, found_further c.args.s.now c.loop-at.at c.args.b c.loop-at-test.true c.if-s-at.false),
-)
-
-pub returns : goal.returns
-returns c = record { is = omega (arith, c.loop-at.invariant.2, found_nowhere c.args.s.now c.loop-at.at c.args.b c.loop-at-test.false); within = omega arith }
+pub returns-in-None : goal.returns-in-None
+returns-in-None c =
+    let past : length c.args.s.now < c.args.from = search rules in
+    found_past _ _ _ past

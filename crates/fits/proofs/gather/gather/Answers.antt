@@ -8,5 +8,5 @@ loop-k-init g c = search no_line
 pub loop-k-preserved : goal.loop-k-preserved
 loop-k-preserved g c = search line_entered
 
-pub returns-then-refusal-ne0 : goal.returns-then-refusal-ne0
-returns-then-refusal-ne0 g c = search line_refused
+pub returns-in-Err : goal.returns-in-Err
+returns-in-Err g c = search line_refused

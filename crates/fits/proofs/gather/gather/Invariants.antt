@@ -1,10 +1,6 @@
-use Rattle.std.proofs.Common.{◌-◌}
 use Rattle.fits.specs.Gather.{Standing}
 use Rattle.fits.proofs.gather.gather.Given as goal
 
 -- the lines so far make the shelf
 abbrev pub invariant-loop-k : goal.invariant-loop-k
 invariant-loop-k g l = Standing l.tables l.shelf l.k
-
-abbrev pub decreases-loop-k : goal.decreases-loop-k
-decreases-loop-k g l = 65 - l.k

@@ -1,5 +1,4 @@
 -- What is told stands at the front of some window of the buffer.
-use borrow.Author.Rules.{rules}
 use Rattle.lines.proofs.Reading.{at_the_front}
 use Rattle.lines.proofs.input.next_line.Goals as goal
 

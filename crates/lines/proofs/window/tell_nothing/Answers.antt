@@ -1,5 +1,4 @@
 -- One law for each way out.
-use borrow.Author.Rules.{rules}
 use Rattle.lines.proofs.Fronts.{at_the_end, to_read}
 use Rattle.lines.proofs.window.tell_nothing.Goals as goal
 

@@ -1,5 +1,4 @@
 -- The bytes of a line that was found.
-use borrow.Author.Rules.{rules}
 use Rattle.lines.proofs.Fronts.{line_text}
 use Rattle.lines.proofs.window.text_of.Goals as goal
 

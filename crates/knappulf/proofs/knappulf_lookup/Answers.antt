@@ -1,0 +1,8 @@
+-- `knappulf::knappulf_lookup` meets its contract: the answer is told.
+-- Assumes nothing.
+use borrow.Author.Rules.{rules}
+use Rattle.boundary_answers.proofs.Tells.{told_as}
+use Rattle.knappulf.proofs.knappulf_lookup.Goals as goal
+
+pub returns : goal.returns
+returns c = told_as c.tell.ensures cc

@@ -1,0 +1,25 @@
+-- `list_ends::clause_ends::second_end` meets its contract: one case for each operator.
+-- Assumes nothing.
+use Rattle.list_ends.proofs.Given.{second_by, made_topmost}
+use Rattle.list_ends.proofs.clause_ends.second_end.Goals as goal
+
+pub returns-in-Equal : goal.returns-in-Equal
+returns-in-Equal c = search second_by
+
+pub returns-in-NotEqual : goal.returns-in-NotEqual
+returns-in-NotEqual c = search second_by
+
+pub returns-in-Compatible : goal.returns-in-Compatible
+returns-in-Compatible c = search second_by
+
+pub returns-in-AtMost : goal.returns-in-AtMost
+returns-in-AtMost c = search second_by
+
+pub returns-in-AtLeast : goal.returns-in-AtLeast
+returns-in-AtLeast c = search (second_by, made_topmost)
+
+pub returns-in-Below : goal.returns-in-Below
+returns-in-Below c = search second_by
+
+pub returns-in-Above : goal.returns-in-Above
+returns-in-Above c = search (second_by, made_topmost)

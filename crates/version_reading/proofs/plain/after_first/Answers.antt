@@ -1,0 +1,18 @@
+-- `version_reading::plain::after_first` meets its contract.
+-- Assumes nothing.
+use mathlib.Core.Path.{refl}
+use borrow.Author.Rules.{rules}
+use Rattle.version_reading.specs.Plain.{Filled, after_first}
+use Rattle.version_reading.proofs.plain.after_first.Goals as goal
+
+pub returns-in-Ok-None : goal.returns-in-Ok-None
+unfolding after_first
+returns-in-Ok-None c = record { is = search rules; sound = record { within = search rules; few = search rules; filled = Filled.one refl refl refl refl } }
+
+pub returns-in-Ok-Some : goal.returns-in-Ok-Some
+unfolding after_first
+returns-in-Ok-Some c = search rules
+
+pub returns-in-Err : goal.returns-in-Err
+unfolding after_first
+returns-in-Err c = search rules
