@@ -1,8 +1,9 @@
 // A text that is put together in a lent buffer, for those that print it.
-ghost use Rattle.std.specs.Prelude.{◌≡◌, ◌+◌, ◌≤◌, [], ◌∷◌, length, max, IsTrue};
+ghost use Rattle.std.specs.Prelude.{◌≡◌, false, ◌+◌, ◌≤◌, [], ◌∷◌, length, max, IsTrue};
 ghost use Rattle.chars.specs.Place.{PartOf};
 ghost use Rattle.decimal.specs.Digits.{decimal};
 ghost use Rattle.decimal.specs.Put.{Put};
+ghost use Rattle.answer_lines.specs.Room.{Roomed, made};
 ghost use Rattle.answer_lines.specs.Text.{refusal_line, normal_line};
 
 use crate::room::make_room;
@@ -75,7 +76,9 @@ impl<'a> Line<'a> {
     // Writes the text so far and begins anew, if what comes next, which has at most `longest` bytes, might find no room after it. False where
     // it can't be written.
     pub fn make_room<W: Write>(&mut self, output: &mut W, longest: usize) -> bool
+        ensures made { Roomed self.old.buffer.now self.old.end longest (made result self.new.end) }
         ensures room { IsTrue result → (self.new.end + longest ≤ max longest (length self.old.buffer.now)) }
+        ensures closed { result ≡ false → self.new.end ≡ self.old.end }
         ensures as_it_was { self.new.buffer.now ≡ self.old.buffer.now }
     {
         let end = self.end;

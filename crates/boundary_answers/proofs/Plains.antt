@@ -2,7 +2,7 @@
 -- Assumes nothing.
 use Rattle.std.specs.Prelude.{Option, Some}
 use mathlib.Core.Path.{◌≡◌}
-use mathlib.Core.Bool.{Bool, false}
+use mathlib.Core.Bool.{Bool, true, false}
 use mathlib.Core.List.{List}
 use Prim.Native.Nat.{ℕ}
 use Rattle.version_reading.specs.declared.plain.Plain.{Plain}
@@ -19,6 +19,9 @@ module _ (s : List ℕ) (r : Option Plain) (v : Plain) (e : r ≡ plain_of s) (f
 
   pub plain_wildcard : (wildcards : Bool) → false ≡ (pattern_as wildcards s).wildcard
   plain_wildcard wildcards = rw (plain_said wildcards s r v e f)
+
+  pub told_pattern : (x : Said) → x ≡ of_verdict Accepted false → x ≡ of_verdict (pattern_as true s).verdict (pattern_as true s).wildcard
+  told_pattern x g = rw (plain_said true s r v e f) g
 
   pub told_version : (x : Said) → x ≡ of_verdict Accepted false → x ≡ of_verdict (version_of s).verdict false
   unfolding version_of

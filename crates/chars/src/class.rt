@@ -32,22 +32,32 @@ pub fn class_of(b: u8) -> u8
     CLASSES[i]
 }
 
-// The same by the ranges of bytes. Small letters and digits, whose runs are the longest, are tested by themselves: in the `match` a letter
-// would cost 29 instructions of a run and not 12.
+// The same by the ranges of bytes, from the letters down: the longest runs are those of small letters, of digits and of blanks, and one `match`
+// over all ranges would ask for those last.
 #[tactic(auto, unfolding(crate::specs::Class::class_of))]
 pub fn class_by_ranges(b: u8) -> u8
     ensures { Classed b result }
 {
-    if b.is_ascii_lowercase() {
+    if b'z' < b {
+        return OTHER;
+    }
+    if b'a' <= b {
         return LETTER;
     }
-    if b.is_ascii_digit() {
+    if b'9' < b {
+        return match b {
+            b'A'..=b'Z' => LETTER,
+            b'_' => SEPARATOR,
+            _ => OTHER,
+        };
+    }
+    if b'0' <= b {
         return DIGIT;
     }
     match b {
-        b'A'..=b'Z' => LETTER,
-        b'.' | b'_' | b'-' => SEPARATOR,
-        b' ' | b'\t' | b'\n' | 12 | b'\r' => BLANK,
+        b' ' => BLANK,
+        b'.' | b'-' => SEPARATOR,
+        b'\t' | b'\n' | 12 | b'\r' => BLANK,
         _ => OTHER,
     }
 }

@@ -25,8 +25,13 @@ fn digit(b: u8) -> u64
 
 // The value with one more digit behind it, where 64 bits hold it.
 fn with_digit(value: u64, d: u64) -> Option<u64>
+    requires { d ≤ 9 }
     ensures { MatchOption result (2 ^ 64 ≤ value * 10 + d) (λ more. more ≡ value * 10 + d) }
 {
+    // Nearly every digit is one of these, which can't be too much.
+    if value < LARGEST / 10 {
+        return Some(value * 10 + d);
+    }
     value.checked_mul(10)?.checked_add(d)
 }
 

@@ -49,9 +49,9 @@ fn main(rt: HostRuntime) {
     let mut texts = Lines::new(&mut input, &mut buffer, 65536);
     // A proved loop has to end, and nothing says that the input does: no run uses this count up.
     for _ in 0..u64::MAX {
-        let Some(text) = texts.next() else {
+        if !texts.advance() {
             return;
-        };
-        answer_line(&mut output, text, &mut out);
+        }
+        answer_line(&mut output, texts.line(), &mut out);
     }
 }

@@ -29,9 +29,10 @@ pub(crate) fn gather<R: Read>(
     let mut shelf = Shelf::empty();
     // No run uses this count up: the 65th line is refused.
     for k in 0..65usize {
-        let Some(line) = lines.next() else {
+        if !lines.advance() {
             return Ok(None);
-        };
+        }
+        let line = lines.line();
         if line.is_empty() {
             return Ok(Some(shelf));
         }

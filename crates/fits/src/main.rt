@@ -52,13 +52,13 @@ fn answer_versions<R: Read, W: Write>(
     let mut answers = Line::new(&mut out);
     // A proved loop has to end, and nothing says that the input does: no run uses this count up.
     for _ in 0..u64::MAX {
-        let Some(version) = lines.next() else {
+        if !lines.advance() {
             break;
-        };
+        }
         if !answers.make_room(output, LONGEST_ANSWER) {
             return;
         }
-        put_fit(&mut answers, held, tables, version);
+        put_fit(&mut answers, held, tables, lines.line());
     }
     let _ = output.write_all(answers.so_far());
 }

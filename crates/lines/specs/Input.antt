@@ -1,6 +1,8 @@
 -- What reading on does to a buffer and its window. Of the bytes that come nothing can be said.
-use Rattle.std.specs.Prelude.{◌≡◌, List, ◌++◌, ℕ, ◌-◌, ◌≤◌, eqb, length, take, drop}
+use Rattle.std.specs.Prelude.{◌≡◌, Bool, true, false, List, ◌++◌, ℕ, ◌-◌, ◌≤◌, eqb, length, take, drop}
 use Rattle.lines.specs.declared.window.Window.{Window}
+use Rattle.lines.specs.declared.window.Found.{Found}
+use Rattle.lines.specs.declared.window.Found.TheVariants.{Line, More, End}
 use Rattle.lines.specs.declared.window.Next.{Next}
 use Rattle.lines.specs.Window.{held, front, text_of}
 
@@ -28,6 +30,19 @@ pub record ReadOn (old : List ℕ) (w : Window) (new : List ℕ) (r : Window) : 
 pub record Told (buffer : List ℕ) (longest : ℕ) (r : Next) : Type 0 where
   pub window : Window
   pub is : r ≡ front buffer window longest
+
+-- what was found, and the window after it
+abbrev pub next_of : Found → Window → Next
+next_of found window = record { found = found; window = window }
+
+abbrev pub is_line : Found → Bool
+is_line (Line start end) = true
+is_line More = false
+is_line End = false
+
+-- before the first line
+abbrev pub nothing_found : Found
+nothing_found = More
 
 -- a line that was told, of some buffer
 pub record ToldLine (longest : ℕ) (line : List ℕ) : Type 0 where

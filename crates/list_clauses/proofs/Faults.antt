@@ -6,7 +6,7 @@ use Rattle.std.specs.Prelude.{Option, Some, None, Ok, Err}
 use mathlib.Core.Path.{◌≡◌, refl, ◌∙◌}
 use mathlib.Core.Bool.{true}
 use mathlib.Core.List.{List}
-use Prim.Native.Nat.{ℕ, ◌+◌, ◌≤◌}
+use Prim.Native.Nat.{ℕ, ◌+◌, ◌≤◌, ◌<◌}
 use native.Mathlib.Decide.{ℕ_discrete}
 use native.Mathlib.Omega.{arith}
 use lib.ListN.{length, drop, length-drop}
@@ -17,6 +17,7 @@ use Rattle.version.specs.Refusals.{Row as PatternRow}
 use Rattle.version.proofs.Answers.{flag_cases, holds, fails}
 use Rattle.version.proofs.Covering.{some_row, accepted, refused}
 use Rattle.version.proofs.Exactly.{pattern_refused}
+use Rattle.version.proofs.Numbers.{refusal_numbers}
 use Rattle.list_clauses.specs.declared.operator.Operator.{Operator}
 use Rattle.list_clauses.specs.declared.clause.Clause.{Clause}
 use Rattle.list_clauses.specs.Operator.{operator_of}
@@ -59,6 +60,15 @@ module _ (t : List ℕ) (start from : ℕ) (short : length t ≤ longest) where
   fault_refused (Fault.stray_wildcard_there o width r a e) = pattern_judged_there a ∙ rw e
   fault_refused (Fault.labelled o width r a e f) = pattern_judged_there a ∙ rw (e, ne_eqb _ _ f)
   fault_refused (Fault.too_short o width r a e f g) = pattern_judged_there a ∙ rw (e, eq-eqb _ _ f, g)
+
+  -- no row has the number 0
+  pub fault_number : {n p : ℕ} → Fault t start from n p → 0 < n
+  fault_number (Fault.empty e) = omega arith
+  fault_number (Fault.no_operator some e) = omega arith
+  fault_number (Fault.in_pattern o width n p a f) = omega (arith, (refusal_numbers (PatternRow.within n p (within_pattern width) f)).0)
+  fault_number (Fault.stray_wildcard_there o width r a e) = omega arith
+  fault_number (Fault.labelled o width r a e f) = omega arith
+  fault_number (Fault.too_short o width r a e f g) = omega arith
 
   -- every clause is read or has a row
   data Judged : Type 0 where

@@ -3,9 +3,10 @@
 use Rattle.answers.specs.declared.Refusal.{Refusal}
 use Rattle.std.specs.Prelude.{Option, Some, None, Result, Ok, Err}
 use mathlib.Core.Path.{◌≡◌, refl}
-use mathlib.Core.Bool.{false}
+use mathlib.Core.Bool.{true, false}
 use mathlib.Core.List.{List}
-use Prim.Native.Nat.{ℕ, zero, suc, ◌+◌}
+use Prim.Native.Nat.{ℕ, zero, suc, ◌+◌, ◌≤◌}
+use native.Mathlib.Omega.{arith}
 use lib.Dec.{eqb, ltb}
 use lib.ListN.{length, drop}
 use borrow.Author.Tests.{eqb-true}
@@ -15,6 +16,8 @@ use Rattle.version_reading.specs.declared.text.Verdict.{Verdict}
 use Rattle.version_reading.specs.declared.text.Verdict.TheVariants.{Accepted, Refused}
 use Rattle.version_reading.specs.Reading.{longest, pattern_of}
 use Rattle.version.proofs.Answers.{flag_cases, holds, fails}
+use Rattle.version.proofs.Exactly.{row_of_refusal}
+use Rattle.version.proofs.Numbers.{refusal_numbers}
 use Rattle.list_clauses.specs.declared.operator.Operator.{Operator}
 use Rattle.list_clauses.specs.declared.clause.Clause.{Clause}
 use Rattle.list_clauses.specs.Operator.{operator_of}
@@ -34,25 +37,25 @@ pub data Origin : Clause → Type 0 where
   read : (operator : Operator) (text : List ℕ) → (pattern_of text).verdict ≡ Accepted → (pattern_of text).version.local.len ≡ 0 →
       too_short_for operator (pattern_of text).version.release.len ≡ false → Origin (clause_with operator (pattern_of text).wildcard (pattern_of text).version)
 
--- of a clause that is refused nothing is said
-abbrev Comes : Result Clause Refusal → Type 0
+-- a clause that is refused has a number
+abbrev pub Comes : Result Clause Refusal → Type 0
 Comes (Ok c) = Origin c
-Comes (Err x) = Unit {0}
+Comes (Err x) = 1 ≤ x.number
 
 module _ (operator : Operator) (text : List ℕ) (place : ℕ) where
   judged_origin : (pattern_of text).verdict ≡ Accepted → Comes (judged operator (pattern_of text).wildcard (pattern_of text).version place)
   unfolding judged
   judged_origin a =
       elim (flag_cases (stray_wildcard operator (pattern_of text).wildcard)) [
-        | holds e ↦ rw e tt
+        | holds e ↦ rw e (omega arith)
         | fails e ↦
             rw e
             (elim (flag_cases (eqb (pattern_of text).version.local.len 0)) [
-              | fails f ↦ rw f tt
+              | fails f ↦ rw f (omega arith)
               | holds f ↦
                   rw f
                   (elim (flag_cases (too_short_for operator (pattern_of text).version.release.len)) [
-                    | holds g ↦ rw g tt
+                    | holds g ↦ rw g (omega arith)
                     | fails g ↦ rw g (Origin.read operator text a (eqb-true _ _ f) g)
                   ])
             ])
@@ -60,7 +63,7 @@ module _ (operator : Operator) (text : List ℕ) (place : ℕ) where
 
   verdict_origin : (v : Verdict) → (pattern_of text).verdict ≡ v → Comes (pattern_judged operator place (pattern_of text) v)
   verdict_origin Accepted e = judged_origin e
-  verdict_origin (Refused x) e = tt
+  verdict_origin (Refused x) e = (refusal_numbers (row_of_refusal true text x.number x.place e)).0
 
   pattern_origin : Comes (pattern_clause operator text place)
   unfolding pattern_clause
@@ -68,21 +71,21 @@ module _ (operator : Operator) (text : List ℕ) (place : ℕ) where
 
 operator_origin : (bytes : List ℕ) (from : ℕ) (x : Option (Operator × ℕ)) → Comes (operator_clause bytes from x)
 operator_origin bytes from (Some (operator, width)) = pattern_origin operator (drop width bytes) (from + width)
-operator_origin bytes from None = tt
+operator_origin bytes from None = omega arith
 
 bytes_origin : (bytes : List ℕ) (start from : ℕ) → Comes (clause_of bytes start from)
 unfolding clause_of
 bytes_origin bytes start from =
     elim (flag_cases (eqb (length bytes) 0)) [
-      | holds e ↦ rw e tt
+      | holds e ↦ rw e (omega arith)
       | fails e ↦ rw e (operator_origin bytes from (operator_of bytes))
     ]
 
-clause_origin : (s : List ℕ) (start : ℕ) → Comes (clause_in s start)
+pub clause_origin : (s : List ℕ) (start : ℕ) → Comes (clause_in s start)
 unfolding clause_in
 clause_origin s start =
     elim (flag_cases (ltb longest (length s))) [
-      | holds e ↦ rw e tt
+      | holds e ↦ rw e (omega arith)
       | fails e ↦ rw e (bytes_origin (bytes_in s (part_start s start) (part_end s start)) start (part_start s start))
     ]
 

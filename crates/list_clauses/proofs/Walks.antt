@@ -73,6 +73,15 @@ pub walk_none : (s : List ℕ) → Walked s 0 0
 unfolding start_at first_clauses
 walk_none s = record { at = refl; all = refl; rest = refl }
 
+-- the first n clauses are n, where each was read
+pub first_count : (s : List ℕ) (n : ℕ) → ((i : ℕ) → i < n → (c : Clause) × (clause_in s (start_at s i) ≡ Ok c)) → length (first_clauses s n) ≡ n
+unfolding first_clauses
+first_count s zero read = refl
+first_count s (suc n) read =
+    let last = read n (omega arith) in
+    let before = first_count s n (λ i h. read i (omega arith)) in
+    rw last.1 (omega (arith, length-append (first_clauses s n) (last.0 ∷ []), before))
+
 module _ (s : List ℕ) (count start : ℕ) (W : Walked s count start) where
   -- a 17th clause begins
   pub walk_full : 16 ≤ count → refused 17 start ≡ clauses_from 16 s 0

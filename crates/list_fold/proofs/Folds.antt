@@ -15,7 +15,7 @@ use Rattle.list_clauses.specs.declared.clause.Clause.{Clause}
 use Rattle.list_clauses.specs.declared.step.Step.{Step}
 use Rattle.list_clauses.specs.Commas.{commas_in}
 use Rattle.list_clauses.specs.Step.{clause_in, step_at, start_at, first_clauses}
-use Rattle.list_clauses.specs.List.{clauses_from}
+use Rattle.list_clauses.specs.List.{clauses_from, checked}
 use Rattle.list_clauses.proofs.Walks.{Walked, walk_full, walk_refused, walk_last, count_more}
 use Rattle.list_clauses.proofs.CommasCounted.{comma_passed}
 use Rattle.list_clauses.proofs.Lists.{listed_long, listed_blank, listed_some}
@@ -23,10 +23,11 @@ use Rattle.list_ends.specs.declared.end.End.{End}
 use Rattle.list_ends.specs.End.{place_of, bottom, topmost}
 use Rattle.list_ends.specs.Ends.{first_end, second_end}
 use Rattle.list_ends.specs.Number.{place_number}
+use Rattle.list_fold.specs.declared.fold.Folded.{Folded}
 use Rattle.list_fold.specs.declared.numbered_ranges.NumberedRanges.{NumberedRanges}
 use Rattle.list_fold.specs.Row.{rows_to, Rows, EndsPut}
 use Rattle.list_fold.specs.Ranges.{range, packed, Holds}
-use Rattle.list_fold.specs.Numbered.{folded_by}
+use Rattle.list_fold.specs.Numbered.{folded_by, numbered}
 use Rattle.list_fold.specs.Folded.{ClauseFolded, packed_by, FoldedBy, FoldedAs}
 use Rattle.list_fold.proofs.Packed.{held, held_count, restated}
 use Rattle.list_fold.proofs.Stored.{rows_go_on}
@@ -36,6 +37,11 @@ use Rattle.list_fold.proofs.Numbered.{first_number, second_number, folded_count,
 pub record Folding (s : List ℕ) (count : ℕ) (rows : List ℕ) (ranges : NumberedRanges) : Type 0 where
   pub keys : Rows (place_number s) (2 * count + 2) rows
   pub parts : Holds 17 (folded_by s (first_clauses s count)) ranges
+
+-- both parts of an answer
+both : {m n : ℕ} {a b : NumberedRanges} → m ≡ n → a ≡ b
+    → ◌≡◌ {A = Result Folded Refusal} (Ok (record { count = m; ranges = a })) (Ok (record { count = n; ranges = b }))
+both e f = rw (e, f)
 
 -- no clause yet: one range, from below all to above all
 pub folding_none : (s old rows : List ℕ) (first second : End) (ranges : NumberedRanges) (n : ℕ) → n + 96 ≤ length old → first ≡ bottom → second ≡ topmost
@@ -80,10 +86,14 @@ module _ (s : List ℕ) (count start : ℕ) (W : Walked s count start) where
             parts = record { is = rw (add-one count) more; few = omega (arith, folded_count s (suc count) all, held_count _ more) };
           }
 
-      pub pass_last : x.part.last ≡ true → FoldedBy s (clauses_from 16 s 0) (Ok ranges')
+      pub pass_last : x.part.last ≡ true → FoldedBy s (clauses_from 16 s 0) (Ok (record { count = count + 1; ranges = ranges' }))
       pass_last l =
           let all = folding_more.parts in
-          record { is = ap Ok all.is ∙ ap (packed_by s) (walk_last s count start W x e few c g l); few = all.few }
+          let counted : count + 1 ≡ length (first_clauses s (count + 1)) = sym (count_more s count start W x e few c g) in
+          record {
+            is = both counted all.is ∙ ap (packed_by s) (walk_last s count start W x e few c g l);
+            few = all.few;
+          }
 
 -- the clauses so far are no more than the commas
 pub commas_left : (s : List ℕ) (count start : ℕ) (x : Step) → count + commas_in (drop start s) ≡ commas_in s → x ≡ step_at s start →
@@ -92,11 +102,15 @@ commas_left s count start x same e l = omega (arith, comma_passed s start x e l)
 
 -- the ways of `fold`
 pub fold_long : (s : List ℕ) → 1024 < length s → FoldedAs s (Err (refusal 8 1024))
+unfolding numbered checked
 fold_long s h = record { is = ap (packed_by s) (listed_long s h); few = tt }
 
 module _ (s : List ℕ) (n : ℕ) (short : length s ≤ 1024) (e : n ≡ front (between blank blank) s) where
-  pub fold_some : (r : Result NumberedRanges Refusal) → (n ≡ length s → ⊥) → FoldedBy s (clauses_from 16 s 0) r → FoldedAs s r
+  pub fold_some : (r : Result Folded Refusal) → (n ≡ length s → ⊥) → FoldedBy s (clauses_from 16 s 0) r → FoldedAs s r
+  unfolding numbered checked
   fold_some r f h = record { is = h.is ∙ ap (packed_by s) (listed_some s n short e f); few = h.few }
 
-  pub fold_blank : (ranges : NumberedRanges) → n ≡ length s → Holds 1 (range 0 1 ∷ []) ranges → FoldedAs s (Ok ranges)
-  fold_blank ranges f h = record { is = ap Ok h.is ∙ ap (packed_by s) (listed_blank s n short e f); few = omega (arith, h.few) }
+  pub fold_blank : (ranges : NumberedRanges) → n ≡ length s → Holds 1 (range 0 1 ∷ []) ranges
+      → FoldedAs s (Ok (record { count = 0; ranges = ranges }))
+  unfolding numbered checked
+  fold_blank ranges f h = record { is = both refl h.is ∙ ap (packed_by s) (listed_blank s n short e f); few = omega (arith, h.few) }

@@ -17,7 +17,7 @@ use Rattle.answers.specs.declared.Refusal.{Refusal}
 use Rattle.std.specs.Prelude.{Result}
 use Rattle.list_clauses.specs.Step.{first_clauses}
 use Rattle.list_clauses.proofs.Walks.{AllRead}
-use Rattle.list_fold.specs.declared.numbered_ranges.NumberedRanges.{NumberedRanges}
+use Rattle.list_fold.specs.declared.fold.Folded.{Folded}
 use Rattle.list_fold.specs.Numbered.{folded_by, numbered}
 use Rattle.list_fold.specs.Folded.{FoldedAs}
 use Rattle.list_fold.proofs.Numbered.{folded_places, folded_in}
@@ -38,5 +38,5 @@ module _ (s : List ℕ) (cs : List Clause) (e : list_of s ≡ clauses cs) where
   unfolding numbered
   numbered_in = rw e (folded_in s (2 + 2 * length cs) cs (omega arith))
 
-pub one_fold : (s : List ℕ) (r q : Result NumberedRanges Refusal) → FoldedAs s r → FoldedAs s q → r ≡ q
+pub one_fold : (s : List ℕ) (r q : Result Folded Refusal) → FoldedAs s r → FoldedAs s q → r ≡ q
 one_fold s r q h k = h.is ∙ sym k.is

@@ -4,9 +4,10 @@ ghost use Rattle.list_ends.specs.Number.{place_from, place_number};
 
 use list_clauses::step::{part_at, step_at};
 use list_ends::clause_ends::{first_end, second_end};
-use list_ends::end::End;
+use list_ends::end::{End, Side};
+use version_parts::fields::Version;
 
-// The ends of the clauses alone. A clause that is refused has its ends below all.
+// The ends of the clauses alone. A clause that is refused has the ends of the blank version.
 fn clause_end(list: &[u8], number: usize) -> End
     ensures { EndIs (place_from list.now 0 number) 16 result }
 {
@@ -15,12 +16,25 @@ fn clause_end(list: &[u8], number: usize) -> End
         start = part_at(list, start).next;
     }
     match step_at(list, start).clause {
-        Err(_) => End::bottom(),
         Ok(clause) => {
             if number % 2 == 0 {
                 first_end(clause)
             } else {
                 second_end(clause)
+            }
+        }
+        Err(_) => {
+            let version = Version::none();
+            if number % 2 == 0 {
+                End {
+                    side: Side::Before,
+                    version,
+                }
+            } else {
+                End {
+                    side: Side::After,
+                    version,
+                }
             }
         }
     }

@@ -13,8 +13,15 @@ use list_clauses::commas::count_commas;
 use list_clauses::step::step_at;
 use list_ends::end::End;
 
+// What a list that is read says: how many clauses it has, and the ranges of what all of them accept.
+#[derive(Clone, Copy)]
+pub struct Folded {
+    pub count: usize,
+    pub ranges: NumberedRanges,
+}
+
 // One pass over a list that is not blank: each clause is read and folded. `rows` has room for two rows, and two more for each clause.
-fn fold_clauses(list: &[u8], rows: &mut [u64]) -> Result<NumberedRanges, Refusal>
+fn fold_clauses(list: &[u8], rows: &mut [u64]) -> Result<Folded, Refusal>
     requires { 48 * min (commas_in list.now) 15 + 96 ≤ length rows.old }
     ensures { FoldedBy list.now (clauses_from 16 list.now 0) result }
 {
@@ -26,7 +33,10 @@ fn fold_clauses(list: &[u8], rows: &mut [u64]) -> Result<NumberedRanges, Refusal
         let clause = read.clause?;
         ranges = fold_clause(rows, ranges, clause, count);
         if read.part.last {
-            return Ok(ranges);
+            return Ok(Folded {
+                count: count + 1,
+                ranges,
+            });
         }
         start = read.part.next;
     }
@@ -36,8 +46,8 @@ fn fold_clauses(list: &[u8], rows: &mut [u64]) -> Result<NumberedRanges, Refusal
     })
 }
 
-// The ranges of what all clauses of a list accept, or the list's refusal. Most lists have few clauses, and need few rows.
-pub fn fold(list: &[u8]) -> Result<NumberedRanges, Refusal>
+// How many clauses a list has, and the ranges of what all of them accept; or the list's refusal. Most lists have few clauses, and need few rows.
+pub fn fold(list: &[u8]) -> Result<Folded, Refusal>
     ensures { FoldedAs list.now result }
 {
     if 1024 < list.len() {
@@ -47,7 +57,10 @@ pub fn fold(list: &[u8]) -> Result<NumberedRanges, Refusal>
         });
     }
     if class::run(list, class::BLANK, class::BLANK) == list.len() {
-        return Ok(NumberedRanges::everything());
+        return Ok(Folded {
+            count: 0,
+            ranges: NumberedRanges::everything(),
+        });
     }
     if count_commas(list) <= 3 {
         let mut rows = [0u64; 240];

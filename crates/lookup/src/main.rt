@@ -19,8 +19,9 @@ fn main(rt: HostRuntime) {
     let mut buffer = lines::input::buffer();
     let mut table = [0u8; 16384];
     let mut lines = Lines::new(&mut input, &mut buffer, LONGEST_LINE);
-    let list = lines.next().unwrap_or(b"");
-    match table_compile::compile(list, &mut table) {
+    // An input with no line is an empty list.
+    let _ = lines.advance();
+    match table_compile::compile(lines.line(), &mut table) {
         Ok(n) => answer_versions(&mut lines, &mut output, part(&table, 0, n)),
         Err(refusal) => refuse_list(&mut output, refusal),
     }
@@ -41,13 +42,13 @@ fn answer_versions<R: Read, W: Write>(lines: &mut Lines<'_, R>, output: &mut W, 
     let mut answers = Line::new(&mut out);
     // A proved loop has to end, and nothing says that the input does: no run uses this count up.
     for _ in 0..u64::MAX {
-        let Some(version) = lines.next() else {
+        if !lines.advance() {
             break;
-        };
+        }
         if !answers.make_room(output, LONGEST_ANSWER) {
             return;
         }
-        put_answer(&mut answers, table, version);
+        put_answer(&mut answers, table, lines.line());
     }
     let _ = output.write_all(answers.so_far());
 }

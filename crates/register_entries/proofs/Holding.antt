@@ -1,12 +1,13 @@
 -- Entries in an array: what is held is read again, one more goes after the others, and what lies after the first 65 is not held.
 -- Assumes nothing.
-use mathlib.Core.Path.{◌≡◌, sym, ◌∙◌}
+use mathlib.Core.Path.{◌≡◌, sym, ◌∙◌, ap}
 use mathlib.Core.List.{List, [], ◌∷◌, ◌++◌, append_assoc}
-use Prim.Native.Nat.{ℕ, ◌≤◌, ◌<◌, min}
+use Prim.Native.Nat.{ℕ, ◌+◌, ◌≤◌, ◌<◌, min}
 use native.Mathlib.Decide.{dec_lt}
+use native.Mathlib.Numerals.{add-one}
 use native.Mathlib.Omega.{arith}
-use lib.ListN.{length, take, set, replicate, length-append, length-take, length-replicate, replicate-append-replicate}
-use lib.Seq.{take-take, take-append-le, take-length, take_all, take-set-lt, set-append_seam, append_snoc}
+use lib.ListN.{length, get_or, take, set, replicate, length-append, length-take, length-replicate, replicate-append-replicate}
+use lib.Seq.{take-suc, get_or-take, length-take-le, take-take, take-append-le, take-length, take_all, take-set-lt, set-append_seam, append_snoc}
 use borrow.Author.Tests.{lt-ltb, le-ltb}
 use Rattle.register_entries.specs.declared.entry.Entry.{Entry}
 use Rattle.register_entries.specs.declared.held.Held.{Held}
@@ -32,6 +33,16 @@ same_first : (es fs : List Entry) → 65 ≤ length es → 65 ≤ length fs → 
 unfolding held_of
 same_first es fs h k e =
     same (take-append-le 65 es (replicate 65 blank) h ∙ e ∙ sym (take-append-le 65 fs (replicate 65 blank) k)) (rw e)
+
+-- what stands after the first 65 is not held
+pub first_held : (es : List Entry) (n : ℕ) → min (length es) 65 ≤ n → held_of (take n es) ≡ held_of es
+first_held es n h =
+    elim (dec_lt n (length es)) [
+      | yes k ↦
+          same_first (take n es) es (omega (arith, length-take n es)) (omega arith)
+          (take-take 65 n es (omega arith))
+      | no k ↦ rw (take_all n es (omega arith))
+    ]
 
 -- of a list that is not empty, 64 blanks after it are as good as 65
 one_blank_less : (es : List Entry) → 0 < length es → take 65 (es ++ replicate 64 blank) ≡ take 65 (es ++ replicate 65 blank)
@@ -72,3 +83,17 @@ held_whole h l =
       | yes k ↦ let n : min h.count 65 ≡ h.count = omega arith in rw n
       | no k ↦ take_all (min h.count 65) h.list (omega arith) ∙ sym (take_all h.count h.list (omega arith))
     ]
+
+-- the turn and the end of `gathered`, over the first entries, 65 at most
+module _ (es first : List Entry) (f : first ≡ take (min (length es) 65) es) (i : ℕ) where
+  few : length first ≡ min (length es) 65
+  few = ap length f ∙ length-take-le (min (length es) 65) es (omega arith)
+
+  pub gathers_turn : (d : Entry) → i < length first → with_entry (held_of (take i es)) (get_or first i d) ≡ held_of (take (i + 1) es)
+  gathers_turn d h =
+      let same : get_or first i d ≡ get_or es i d = ap (λ l. get_or l i d) f ∙ get_or-take (min (length es) 65) es i d (omega (arith, few)) in
+      one_more (take i es) (get_or first i d)
+      ∙ rw (same, add-one, take-suc es i d (omega (arith, few)))
+
+  pub gathers_end : (held : Held) → length first ≤ i → held ≡ held_of (take i es) → held ≡ held_of es
+  gathers_end held h e = e ∙ first_held es i (omega (arith, few))

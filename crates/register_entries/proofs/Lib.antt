@@ -1,2 +1,4 @@
+pub mod Lending
+pub mod Firsts
 pub mod Holding
 pub mod Numbered

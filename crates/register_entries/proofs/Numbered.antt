@@ -2,14 +2,15 @@
 -- Assumes nothing.
 use mathlib.Core.Path.{◌≡◌, refl, ◌∙◌, ap}
 use mathlib.Core.List.{List, [], ◌∷◌}
-use Prim.Native.Nat.{ℕ, zero, suc, ◌+◌, ◌≤◌, ◌<◌}
+use Prim.Native.Nat.{ℕ, zero, suc, ◌+◌, ◌≤◌, ◌<◌, min}
 use native.Mathlib.Omega.{arith}
 use native.Mathlib.Numerals.{add-one}
 use lib.ListN.{length, get_or, take, drop}
-use lib.Seq.{take_all, take-suc}
+use lib.Seq.{take-suc, get_or-take, length-take-le}
+use Rattle.register_entries.specs.declared.entry.Entry.{Entry}
 use Rattle.register_entries.specs.declared.held.Held.{Held}
 use Rattle.register_entries.specs.Held.{blank, entry_of, held_of, with_entry, entries_of}
-use Rattle.register_entries.proofs.Holding.{one_more}
+use Rattle.register_entries.proofs.Holding.{one_more, first_held}
 
 pub entries_long : (ids starts lengths : List ℕ) → length (entries_of ids starts lengths) ≡ length ids
 unfolding entries_of
@@ -31,12 +32,20 @@ entry_found (id ∷ ids) starts lengths (suc i) h =
 
 -- the turn and the end of `Held::of_numbers`
 module _ (ids starts lengths : List ℕ) where
-  pub numbers_turn : (i : ℕ) → i < length ids
-      → with_entry (held_of (take i (entries_of ids starts lengths))) (entry_of (get_or ids i 0) (get_or starts i 0) (get_or lengths i 0)) ≡ held_of (take (i + 1) (entries_of ids starts lengths))
-  numbers_turn i h =
-      let es = entries_of ids starts lengths in
-      one_more (take i es) (entry_of (get_or ids i 0) (get_or starts i 0) (get_or lengths i 0))
-      ∙ rw (add-one, ← entry_found ids starts lengths i h, take-suc es i blank (omega (arith, entries_long ids starts lengths)))
+  abbrev es : List Entry
+  es = entries_of ids starts lengths
 
-  pub numbers_end : (held : Held) (i : ℕ) → length ids ≤ i → held ≡ held_of (take i (entries_of ids starts lengths)) → held ≡ held_of (entries_of ids starts lengths)
-  numbers_end held i h f = f ∙ rw (take_all i (entries_of ids starts lengths) (omega (arith, entries_long ids starts lengths)))
+  -- the first identifiers, 65 at most
+  module _ (first : List ℕ) (f : first ≡ take (min (length ids) 65) ids) (i : ℕ) where
+    few : length first ≡ min (length ids) 65
+    few = ap length f ∙ length-take-le (min (length ids) 65) ids (omega arith)
+
+    pub numbers_turn : i < length first
+        → with_entry (held_of (take i es)) (entry_of (get_or first i 0) (get_or starts i 0) (get_or lengths i 0)) ≡ held_of (take (i + 1) es)
+    numbers_turn h =
+        let same : get_or first i 0 ≡ get_or ids i 0 = ap (λ l. get_or l i 0) f ∙ get_or-take (min (length ids) 65) ids i 0 (omega (arith, few)) in
+        one_more (take i es) (entry_of (get_or first i 0) (get_or starts i 0) (get_or lengths i 0))
+        ∙ rw (same, add-one, ← entry_found ids starts lengths i (omega (arith, few)), take-suc es i blank (omega (arith, few, entries_long ids starts lengths)))
+
+    pub numbers_end : (held : Held) → length first ≤ i → held ≡ held_of (take i es) → held ≡ held_of es
+    numbers_end held h e = e ∙ first_held es i (omega (arith, few, entries_long ids starts lengths))

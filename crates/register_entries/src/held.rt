@@ -7,8 +7,8 @@ use crate::entry::Entry;
 // The first `count` of the list; those after them are blank.
 #[derive(Clone, Copy)]
 pub struct Held {
-    list: [Entry; 65],
-    count: usize,
+    pub list: [Entry; 65],
+    pub count: usize,
 }
 
 fn number_at(numbers: &[usize], at: usize) -> usize
@@ -38,7 +38,9 @@ impl Held {
         ensures { result ≡ held_of (entries_of ids.now starts.now lengths.now) }
     {
         let mut held = Held::none();
-        for (i, id) in ids.iter().enumerate() {
+        // None after the 65th is held, however many there are.
+        let first = &ids[..ids.len().min(65)];
+        for (i, id) in first.iter().enumerate() {
             held.push(Entry {
                 id: *id,
                 start: number_at(starts, i),

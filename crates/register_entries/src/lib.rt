@@ -2,5 +2,6 @@
 #![tactic(auto)]
 
 pub mod entry;
+pub mod gathered;
 pub mod held;
 pub mod ids;

@@ -8,7 +8,7 @@ use Prim.Native.Nat.{ℕ, suc, ◌+◌, ◌-◌, ◌≤◌, ◌<◌}
 use native.Mathlib.Omega.{arith}
 use lib.Dec.{ltb}
 use lib.ListN.{length, take, drop, drop_of_length-le, length-drop}
-use lib.Seq.{take_all}
+use lib.Seq.{take_all, length-take-le}
 use borrow.Author.Tests.{ltb-false}
 use borrow.Rule.Slice.PartMut.{put_mid, mid_of}
 use Rattle.chars.proofs.Parts.{take_rest}
@@ -71,6 +71,11 @@ module _ (tables : List ℕ) (used : ℕ) (list : List ℕ) (r : Result ℕ Refu
         leaves = rw (none, append-nil new) (ap (λ l. take used tables ++ l) d.leaves);
         within = let z = ends_by used (drop used tables) (list_of list) in rw d.answers (omega (arith, z, length-drop used tables));
       }
+
+-- as many are held as the count says
+pub count_is : (held : Held) → length held.list ≡ 65 → held.count ≤ 65 → length (entries_in held) ≡ held.count
+unfolding entries_in
+count_is held long h = length-take-le held.count held.list (omega arith)
 
 -- `enter`, by the refusal that does not depend on the list and by the list's answer
 module _ (tables : List ℕ) (shelf : Shelf) (line : List ℕ) (id : ℕ) (es : List Entry) (early : Result (Unit {0}) Refusal) (named : id ≡ id_of line)

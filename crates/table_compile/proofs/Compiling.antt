@@ -10,13 +10,14 @@ use Rattle.answers.specs.declared.Refusal.{Refusal}
 use Rattle.answers.specs.Printed.{Printed}
 use Rattle.ranges.specs.Map.{map_range}
 use Rattle.list_clauses.specs.declared.clause.Clause.{Clause}
-use Rattle.list_clauses.specs.List.{Listing, refused, clauses, list_of}
+use Rattle.list_clauses.specs.List.{Listing, refused, clauses, list_of, count_of, checked}
 use Rattle.list_ends.specs.Number.{place_number}
 use Rattle.list_ends.specs.Shape.{ranges_of}
 use Rattle.list_fold.specs.declared.numbered_ranges.NumberedRange.{NumberedRange}
 use Rattle.list_fold.specs.declared.numbered_ranges.NumberedRanges.{NumberedRanges}
 use Rattle.list_fold.specs.Ranges.{range_of, ranges_in, packed, Holds}
 use Rattle.list_fold.specs.Numbered.{folded_by, numbered}
+use Rattle.list_fold.specs.declared.fold.Folded.{Folded}
 use Rattle.list_fold.specs.Folded.{packed_by, FoldedAs}
 use Rattle.list_fold.proofs.Packed.{held}
 use Rattle.list_fold.proofs.Numbers.{numbered_places}
@@ -30,27 +31,40 @@ refused_by : (s : List ℕ) (l : Listing) (x : Refusal) (buf : List ℕ) → Err
 refused_by s (refused number place) x buf e = let same : x ≡ record { number = number; place = place } = cc in (ap Err same, refl)
 refused_by s (clauses cs) x buf e = let impossible : ◌≡◌ {A = ℕ} 0 1 = cc in absurd (omega arith)
 
-pub compile_refused : (s : List ℕ) (f : Result NumberedRanges Refusal) (x : Refusal) (buf : List ℕ) → FoldedAs s f → f ≡ Err x → Compiled s buf buf (Err x)
+pub compile_refused : (s : List ℕ) (f : Result Folded Refusal) (x : Refusal) (buf : List ℕ) → FoldedAs s f → f ≡ Err x → Compiled s buf buf (Err x)
+unfolding numbered checked
 compile_refused s f x buf h e = let both = refused_by s (list_of s) x buf (sym e ∙ h.is) in record { answers = both.0; leaves = both.1 }
 
 folded_are : (s : List ℕ) (cs : List Clause) → list_of s ≡ clauses cs → map (map_range (place_number s)) (folded_by s cs) ≡ ranges_of cs
 unfolding numbered
 folded_are s cs e = rw e at (numbered_places s cs e)
 
--- a list that is not, with the ranges of its clauses
-record Read (s : List ℕ) (l : Listing) (ranges : NumberedRanges) : Type 0 where
+-- a list that is not, with the text of its table
+pub said_by_lem : (s : List ℕ) (l : Listing) (n : ℕ) (old new : List ℕ) (r : Result ℕ Refusal) → list_of s ≡ l → Ok n ≡ count_of l →
+    Printed (table_text (map (map_range (place_number s)) (numbered s))) old new r → (r ≡ answer_to l old) × (new ≡ filled_to l old)
+said_by_lem s (refused number place) n old new r g e p = let impossible : ◌≡◌ {A = ℕ} 0 1 = cc in absurd (omega arith)
+said_by_lem s (clauses cs) n old new r g e p = let q = rw (numbered_places s cs g) at p in (q.answers, q.leaves)
+
+-- and with the ranges of its clauses
+record Read (s : List ℕ) (l : Listing) (folded : Folded) : Type 0 where
   all : List Clause
   are : l ≡ clauses all
-  is : ranges ≡ packed (folded_by s all)
+  is : folded.ranges ≡ packed (folded_by s all)
 
-read_by : (s : List ℕ) (l : Listing) (ranges : NumberedRanges) → Ok ranges ≡ packed_by s l → Read s l ranges
-read_by s (refused number place) ranges e = let impossible : ◌≡◌ {A = ℕ} 0 1 = cc in absurd (omega arith)
-read_by s (clauses cs) ranges e = record { all = cs; are = refl; is = cc }
+read_by : (s : List ℕ) (l : Listing) (folded : Folded) → Ok folded ≡ packed_by s l → Read s l folded
+read_by s (refused number place) folded e = let impossible : ◌≡◌ {A = ℕ} 0 1 = cc in absurd (omega arith)
+read_by s (clauses cs) folded e =
+    let same : folded ≡ record { count = length cs; ranges = packed (folded_by s cs) } = cc in
+    record { all = cs; are = refl; is = ap (λ f. f.ranges) same }
 
-module _ (s : List ℕ) (f : Result NumberedRanges Refusal) (ranges : NumberedRanges) (l : List NumberedRange) (h : FoldedAs s f) (e : f ≡ Ok ranges)
-    (g : l ≡ take ranges.count ranges.list) where
-  read : Read s (list_of s) ranges
-  read = read_by s (list_of s) ranges (sym e ∙ h.is)
+module _ (s : List ℕ) (f : Result Folded Refusal) (folded : Folded) (l : List NumberedRange) (h : FoldedAs s f) (e : f ≡ Ok folded)
+    (g : l ≡ take folded.ranges.count folded.ranges.list) where
+  abbrev ranges : NumberedRanges
+  ranges = folded.ranges
+
+  read : Read s (list_of s) folded
+  unfolding numbered checked
+  read = read_by s (list_of s) folded (sym e ∙ h.is)
 
   -- the ranges that the numbers say are the list's
   said_are : said_by s l ≡ ranges_of read.all

@@ -16,5 +16,5 @@ pub fn compile(list: &[u8], buffer: &mut [u8]) -> Result<usize, Refusal>
     ensures { Compiled list.now buffer.old buffer.new result }
 {
     let folded = fold(list)?;
-    print_table(list, folded.ranges(), buffer)
+    print_table(list, folded.ranges.ranges(), buffer)
 }

@@ -1,9 +1,11 @@
 -- The ways of `compare_release`: the part of a release's array that counts, at most 16 numbers whatever its length says.
 -- Assumes nothing.
-use mathlib.Core.Path.{◌≡◌}
+use mathlib.Core.Path.{◌≡◌, sym}
 use mathlib.Core.List.{List, []}
-use Prim.Native.Nat.{ℕ, min, compare}
+use Prim.Native.Nat.{ℕ, ◌≤◌, min, compare}
+use native.Mathlib.Omega.{arith}
 use lib.ListN.{length, take}
+use lib.Seq.{length-take-le}
 use Rattle.std.proofs.lemmas.List.{take_min}
 use Rattle.order.specs.Compare.{padded}
 use Rattle.order.specs.Answer.{name_of}
@@ -17,6 +19,12 @@ use Rattle.version_order.specs.Versions.{compare_release}
 
 -- m numbers of the array l count
 module _ (l : List ℕ) (n m : ℕ) (size : length l ≡ 16) (e : m ≡ min n 16) where
+  pub count_within : m ≤ length l
+  count_within = omega (arith, size)
+
+  pub count_is : m ≡ length (take m l)
+  count_is = sym (length-take-le m l count_within)
+
   pub counted : take m l ≡ take n l
   counted = rw (e, ← size) (take_min n l)
 

@@ -1,15 +1,17 @@
 -- The ways of the functions that match a prefix.
 -- Assumes nothing.
-use Rattle.std.proofs.Common.{◌≡◌, refl, ap, Bool, true, false, ◌&&◌, List, [], ◌∷◌, ◌++◌, ℕ, zero, suc, ◌+◌, ◌-◌, ◌≤◌, ◌<◌, add-one, arith, length, get_or, take, drop, replicate}
-use native.Mathlib.Nat.{le_refl}
+use Rattle.std.proofs.Common.{◌≡◌, refl, sym, ap, Bool, true, false, ◌&&◌, List, [], ◌∷◌, ◌++◌, ℕ, zero, suc, ◌+◌, ◌-◌, ◌≤◌, ◌<◌, add-one, arith, length, get_or, take, drop, replicate}
+use Prim.Native.Nat.{min}
+use native.Mathlib.Nat.{le_refl, zero-min, min-zero, suc-min-suc}
 use lib.Dec.{eqb}
-use lib.ListN.{drop_of_length-le}
-use lib.Seq.{drop-cons, take-take}
+use lib.ListN.{length-take, drop_of_length-le}
+use lib.Seq.{drop-cons, take-nil, take-take}
 use borrow.Author.Tests.{eq-eqb, ne_eqb}
 use Rattle.order.proofs.Padded.{head_of_drop, tail_of_drop}
 use Rattle.version_parts.specs.declared.fields.Version.{Version}
 use Rattle.version_reading.specs.Value.{value_of}
 use Rattle.version_prefix.specs.Prefix.{begins, prefix_matches, cut_to, shorter}
+use Rattle.version_compare.proofs.Counts.{counted}
 
 -- zeros that continue the numbers make no difference
 zeros_begin : (p : List ℕ) (k : ℕ) → begins p (replicate k 0) ≡ begins p []
@@ -44,6 +46,18 @@ module _ (p l : List ℕ) (i : ℕ) (rest : begins (drop i p) (drop i l) ≡ beg
     pub begins_on : get_or p i 0 ≡ x → begins (drop (i + 1) p) (drop (i + 1) l) ≡ begins p l
     begins_on f = rw (add-one i) (rw (eq-eqb _ _ f) at here)
 
+take_both : (m n : ℕ) (l : List ℕ) → take (min m n) l ≡ take n (take m l)
+take_both zero n l = rw (zero-min n) (sym (take-nil n))
+take_both (suc m) zero l = rw (min-zero (suc m))
+take_both (suc m) (suc n) [] = take-nil (min (suc m) (suc n))
+take_both (suc m) (suc n) (x ∷ l) = rw (suc-min-suc m n, take_both m n l)
+
+-- m numbers of the array p, and n of the array l
+pub parts_begin : (p l : List ℕ) (len count few m size n : ℕ) (r : Bool) → length p ≡ 16 → length l ≡ 16 →
+    few ≡ min len count → m ≡ min few 16 → n ≡ min size 16 → r ≡ begins (take m p) (take n l) → r ≡ begins (take count (take len p)) (take size l)
+parts_begin p l len count few m size n r s t e f g h =
+    rw (← take_both len count p, ← e, ← counted p few m s f, ← counted l size n t g) h
+
 -- w against the first `count` numbers of v's release
 module _ (v w : Version) (count : ℕ) where
   pub epochs_differ : (v.epoch ≡ w.epoch → ⊥) → false ≡ prefix_matches (cut_to count (value_of [] v)) (value_of [] w)
@@ -66,3 +80,11 @@ pub shorter_matches : (v w : Version) (count : ℕ) (r : Bool) → count ≡ len
     r ≡ prefix_matches (cut_to count (value_of [] v)) (value_of [] w) → r ≡ prefix_matches (shorter (value_of [] v)) (value_of [] w)
 unfolding value_of
 shorter_matches v w count r e f = rw e at f
+
+-- the first `len` of the array's numbers count
+module _ (l : List ℕ) (len n : ℕ) (size : length l ≡ 16) (e : n ≡ min len 16) where
+  pub none_but_last : n ≡ 0 → 0 ≡ length (take len l) - 1
+  none_but_last f = omega (arith, length-take len l, size)
+
+  pub some_but_last : n - 1 ≡ length (take len l) - 1
+  some_but_last = omega (arith, length-take len l, size)

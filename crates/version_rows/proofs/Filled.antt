@@ -2,11 +2,12 @@
 -- Assumes nothing.
 use mathlib.Core.Path.{◌≡◌, sym, ◌∙◌, ap}
 use mathlib.Core.List.{List, [], ◌∷◌, ◌++◌, append_assoc}
-use Prim.Native.Nat.{ℕ, zero, suc, ◌+◌, ◌-◌, ◌≤◌, min}
+use Prim.Native.Nat.{ℕ, zero, suc, ◌+◌, ◌-◌, ◌≤◌, ◌<◌, min}
 use native.Mathlib.Nat.{sub-zero}
+use native.Mathlib.Numerals.{add-one}
 use native.Mathlib.Omega.{arith}
-use lib.ListN.{length, take, drop, replicate, length-replicate}
-use lib.Seq.{length-take-le, drop-append-le}
+use lib.ListN.{length, take, drop, get_or, set, replicate, length-replicate}
+use lib.Seq.{paste, paste-suc, length-take-le, drop-append-le}
 use borrow.Rule.Slice.PartMut.{put_mid}
 use Rattle.version_parts.specs.declared.fields.Version.{Version}
 use Rattle.version_reading.specs.declared.plain.Plain.{Plain}
@@ -23,6 +24,13 @@ pub four_put : (epoch first second third fourth e a b c d mark number : ℕ) (k 
     → e ∷ a ∷ b ∷ c ∷ d ∷ (replicate 12 0 ++ (k.kind ∷ k.pre ∷ mark ∷ number ∷ k.dev ∷ []))
     ≡ epoch ∷ first ∷ second ∷ third ∷ fourth ∷ (replicate 12 0 ++ key_numbers k)
 four_put epoch first second third fourth e a b c d mark number k p q r s t f g = rw (p, q, r, s, t, f, g)
+
+-- one release number more
+pub release_turn : (row numbers filled : List ℕ) (i count n : ℕ) → filled ≡ paste row 1 numbers i → length row ≡ 22
+    → length numbers ≡ 16 → i < count → count ≡ min n 16
+    → set filled (1 + i) (get_or numbers i 0) ≡ paste row 1 numbers (i + 1)
+release_turn row numbers filled i count n e h k l m =
+    rw (e, add-one i) (paste-suc row 1 numbers i 0 (omega arith) (omega (arith, k)))
 
 drop_replicate : (n m x : ℕ) → drop n (replicate m x) ≡ replicate (m - n) x
 drop_replicate zero m x = rw (sub-zero m)

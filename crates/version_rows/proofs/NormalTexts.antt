@@ -71,14 +71,14 @@ module _ (text : List ℕ) (read : PatternReading) (d : read ≡ pattern_as fals
   read_accepted e = rw (← d) e
 
   -- where there is no such version
-  not_normal : None ≡ normal_value text → NormalRead text None
-  not_normal e = record { fields = tt; said = e }
+  not_normal : None ≡ normal_value text → NormalRead text (Err read.version)
+  not_normal e = record { fields = read_fields; said = e }
 
   refused_none : (x : Refusal) → read.verdict ≡ Refused x → None ≡ normal_value text
   unfolding normal_value version_of
   refused_none x e = rw (← d, e)
 
-  pub read_refused : (x : Refusal) → read.verdict ≡ Refused x → NormalRead text None
+  pub read_refused : (x : Refusal) → read.verdict ≡ Refused x → NormalRead text (Err read.version)
   read_refused x e = not_normal (refused_none x e)
 
   module _ (e : read.verdict ≡ Accepted) where
@@ -86,7 +86,7 @@ module _ (text : List ℕ) (read : PatternReading) (d : read ≡ pattern_as fals
     unfolding normal_value version_of
     labelled_none f = rw (← d, e, ← d, ne_eqb _ _ f)
 
-    pub read_labelled : (read.version.local.len ≡ 0 → ⊥) → NormalRead text None
+    pub read_labelled : (read.version.local.len ≡ 0 → ⊥) → NormalRead text (Err read.version)
     read_labelled f = not_normal (labelled_none f)
 
     -- where there may be one, by whether the text is what is printed of it
@@ -95,10 +95,10 @@ module _ (text : List ℕ) (read : PatternReading) (d : read ≡ pattern_as fals
       unfolding normal_value version_of
       unlabelled_said = rw (← d, e, ← d, eq-eqb _ _ f, g, same_value [] text read.version f)
 
-      pub read_normally : same ≡ true → NormalRead text (Some read.version)
+      pub read_normally : same ≡ true → NormalRead text (Ok read.version)
       read_normally h = record { fields = read_fields; said = rw h at unlabelled_said }
 
-      pub read_otherwise : same ≡ false → NormalRead text None
+      pub read_otherwise : same ≡ false → NormalRead text (Err read.version)
       read_otherwise h = not_normal (rw h at unlabelled_said)
 
 -- the ways of `normal_row`
@@ -106,8 +106,8 @@ module _ (text old new : List ℕ) where
   pub plain_normal : (v : Plain) → NormalPlain text v → RowOf (value_of [] (whole_version v)) new → NormalRow text old new true
   plain_normal v p row = record { is = rw p.said; leaves = rw p.said row.is }
 
-  pub none_normal : NormalRead text None → NormalRow text old old false
-  none_normal p = record { is = rw (← p.said); leaves = rw (← p.said) }
+  pub none_normal : (v : Version) → NormalRead text (Err v) → NormalRow text old old false
+  none_normal v p = record { is = rw (← p.said); leaves = rw (← p.said) }
 
-  pub row_normal : (v : Version) → NormalRead text (Some v) → RowOf (value_of [] v) new → NormalRow text old new true
+  pub row_normal : (v : Version) → NormalRead text (Ok v) → RowOf (value_of [] v) new → NormalRow text old new true
   row_normal v p row = record { is = rw (← p.said); leaves = rw (← p.said) row.is }

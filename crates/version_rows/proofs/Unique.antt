@@ -1,8 +1,8 @@
 -- Two results that meet one statement are the same, and so are two rows that are left. Comparing rows and holding one against a prefix are
 -- plain equations.
 -- Assumes nothing.
-use Rattle.std.specs.Prelude.{Option, None, Some}
-use mathlib.Core.Path.{◌≡◌, refl, sym, ◌∙◌}
+use Rattle.std.specs.Prelude.{Option, None, Some, Result, Ok, Err}
+use mathlib.Core.Path.{◌≡◌, sym, ◌∙◌}
 use mathlib.Core.Bool.{Bool}
 use mathlib.Core.List.{List, []}
 use Prim.Native.Nat.{ℕ}
@@ -29,8 +29,8 @@ pub one_pattern_row : {p : PatternReading} {old new new' : List ℕ} {r q : Patt
     PatternRowRead p old new r → PatternRowRead p old new' q → (r ≡ q) × (new ≡ new')
 one_pattern_row a b = (a.is ∙ sym b.is, a.leaves ∙ sym b.leaves)
 
-pub one_normal_reading : {s : List ℕ} {r q : Option Version} → NormalRead s r → NormalRead s q → r ≡ q
-one_normal_reading {s} {r = None} {q = None} a b = refl
-one_normal_reading {s} {r = None} {q = Some w} a b = let e : None ≡ Some (value_of [] w) = a.said ∙ sym b.said in cc
-one_normal_reading {s} {r = Some v} {q = None} a b = let e : Some (value_of [] v) ≡ None = a.said ∙ sym b.said in cc
-one_normal_reading {s} {r = Some v} {q = Some w} a b = let e : v ≡ w = a.fields ∙ sym b.fields in rw e
+pub one_normal_reading : {s : List ℕ} {r q : Result Version Version} → NormalRead s r → NormalRead s q → r ≡ q
+one_normal_reading {s} {r = Err v} {q = Err w} a b = let e : v ≡ w = a.fields ∙ sym b.fields in rw e
+one_normal_reading {s} {r = Err v} {q = Ok w} a b = let e : None ≡ Some (value_of [] w) = a.said ∙ sym b.said in cc
+one_normal_reading {s} {r = Ok v} {q = Err w} a b = let e : Some (value_of [] v) ≡ None = a.said ∙ sym b.said in cc
+one_normal_reading {s} {r = Ok v} {q = Ok w} a b = let e : v ≡ w = a.fields ∙ sym b.fields in rw e

@@ -1,5 +1,5 @@
 -- Texts that are the normal text of a version without local, as the ends of a table have them.
-use Rattle.std.specs.Prelude.{◌≡◌, Bool, true, false, cond, List, [], ℕ, eqb, Option, None, Some}
+use Rattle.std.specs.Prelude.{◌≡◌, Bool, true, false, cond, List, [], ℕ, eqb, Option, None, Some, Result, Ok, Err}
 use Rattle.chars.specs.Same.{same_bytes}
 use Rattle.version_reading.specs.declared.text.Verdict.{Verdict}
 use Rattle.version_reading.specs.declared.text.Verdict.TheVariants.{Accepted, Refused}
@@ -24,18 +24,18 @@ abbrev pub is_there : Option Value → Bool
 is_there None = false
 is_there (Some v) = true
 
--- what the fields that were read say, which have no label
-abbrev pub value_said : Option Version → Option Value
-value_said None = None
-value_said (Some v) = Some (value_of [] v)
+-- the fields that were read, also where they do not count
+abbrev pub fields_in : Result Version Version → Version
+fields_in (Ok v) = v
+fields_in (Err v) = v
 
--- they are those that the text says
-abbrev pub FieldsOf : List ℕ → Option Version → Type 0
-FieldsOf text None = Unit {0}
-FieldsOf text (Some v) = v ≡ (version_of text).version
+-- what those that count say, which have no label
+abbrev pub value_said : Result Version Version → Option Value
+value_said (Ok v) = Some (value_of [] v)
+value_said (Err v) = None
 
-pub record NormalRead (text : List ℕ) (r : Option Version) : Type 0 where
-  pub fields : FieldsOf text r
+pub record NormalRead (text : List ℕ) (r : Result Version Version) : Type 0 where
+  pub fields : fields_in r ≡ (version_of text).version
   pub said : value_said r ≡ normal_value text
 
 -- the row of the value that is there; of none, the row as it was

@@ -25,22 +25,22 @@ fn is_normal(text: &[u8], version: Version) -> bool
     same_bytes(&buffer[..len], text)
 }
 
-// The way for every text: it is read by the rules, and compared with what is printed of it.
-pub fn read_normal(text: &[u8]) -> Option<Version>
+// The way for every text: it is read by the rules, and compared with what is printed of it. An error has the version that was read all the same.
+pub fn read_normal(text: &[u8]) -> Result<Version, Version>
     ensures { NormalRead text.now result }
 {
     let read = read_by_rules(text, false);
     let version = read.version;
     let Verdict::Accepted = read.verdict else {
-        return None;
+        return Err(version);
     };
     if version.local.len != 0 {
-        return None;
+        return Err(version);
     }
     if is_normal(text, version) {
-        Some(version)
+        Ok(version)
     } else {
-        None
+        Err(version)
     }
 }
 
@@ -52,9 +52,11 @@ pub fn normal_row(text: &[u8], row: &mut [u64; 22]) -> bool
         row_of_plain(plain, row);
         return true;
     }
-    let Some(version) = read_normal(text) else {
-        return false;
-    };
-    row_of(version, row);
-    true
+    match read_normal(text) {
+        Ok(version) => {
+            row_of(version, row);
+            true
+        }
+        Err(_) => false,
+    }
 }

@@ -6,12 +6,12 @@ use Rattle.std.proofs.lemmas.Iterator.Consumers.{YieldsList-from_enumerate, Yiel
 use Rattle.std.proofs.lemmas.Iterator.Search.{find_from_yields_List}
 use Rattle.std.proofs.lemmas.Iterator.Splits.{YieldsList-from_slice_split}
 use Rattle.chars.specs.Case.{beginning_of}
-use Rattle.chars.proofs.FirstWords.{word_of, word_found}
+use Rattle.chars.proofs.FirstWords.{word_of, word_chained}
 use Rattle.chars.proofs.spelling.first_word.Goals as goal
 
 pub returns-in-Some : goal.returns-in-Some
 returns-in-Some c =
-    word_found _ _ c.find.result _
+    word_chained _ _ c.find.result _
     (sym (option_map_id c.find.result)
     ∙ find_from_yields_List (λ (p : ℕ × ℕ). not (nat_eq p.1 0)) _ _ c.find.result c.find.ensures.ran
     (YieldsList-from_enumerate
@@ -27,7 +27,7 @@ returns-in-Some c =
 
 pub returns-in-None : goal.returns-in-None
 returns-in-None c =
-    word_found _ _ c.find.result _
+    word_chained _ _ c.find.result _
     (sym (option_map_id c.find.result)
     ∙ find_from_yields_List (λ (p : ℕ × ℕ). not (nat_eq p.1 0)) _ _ c.find.result c.find.ensures.ran
     (YieldsList-from_enumerate

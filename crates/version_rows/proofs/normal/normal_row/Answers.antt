@@ -6,8 +6,8 @@ use Rattle.version_rows.proofs.normal.normal_row.Goals as goal
 pub returns-in-Some : goal.returns-in-Some
 returns-in-Some c = search (plain_normal, c.in-Some.ensures)
 
-pub returns-in_default-read_normal : goal.returns-in_default-read_normal
-returns-in_default-read_normal c = search (none_normal, c.in_default-read_normal.ensures)
+pub returns-in-Ok : goal.returns-in-Ok
+returns-in-Ok c = search (row_normal, c.in-Ok.ensures)
 
-pub returns : goal.returns
-returns c = search (row_normal, c.in-Some-read_normal.ensures)
+pub returns-in-Err : goal.returns-in-Err
+returns-in-Err c = search (none_normal, c.in-Err.ensures)
