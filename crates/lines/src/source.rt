@@ -7,7 +7,8 @@ use crate::input::next_line;
 use crate::window::{Found, Window, empty, text_of};
 use std::io::Read;
 
-// An input with the buffer that it is read through, the line that was found last, and what stands in the buffer after it: of a longer line than `longest` only a beginning is told.
+// An input with the buffer that it is read through, the line that was found last, and what stands in the buffer after it: of a longer line than
+// `longest` only a beginning is told.
 #[derive(Drop)]
 pub struct Lines<'a, R> {
     input: &'a mut R,
