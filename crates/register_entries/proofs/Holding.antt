@@ -7,7 +7,7 @@ use native.Mathlib.Decide.{dec_lt}
 use native.Mathlib.Numerals.{add-one}
 use native.Mathlib.Omega.{arith}
 use lib.ListN.{length, get_or, take, set, replicate, length-append, length-take, length-replicate, replicate-append-replicate}
-use lib.Seq.{take-suc, get_or-take, length-take-le, take-take, take-append-le, take-length, take_all, take-set-lt, set-append_seam, append_snoc}
+use lib.Seq.{take-suc, get_or-take, take-take, take-append-le, take-length, take_all, take-set-lt, set-append_seam, append_snoc}
 use borrow.Author.Tests.{lt-ltb, le-ltb}
 use Rattle.register_entries.specs.declared.entry.Entry.{Entry}
 use Rattle.register_entries.specs.declared.held.Held.{Held}
@@ -84,16 +84,17 @@ held_whole h l =
       | no k ↦ take_all (min h.count 65) h.list (omega arith) ∙ sym (take_all h.count h.list (omega arith))
     ]
 
--- the turn and the end of `gathered`, over the first entries, 65 at most
-module _ (es first : List Entry) (f : first ≡ take (min (length es) 65) es) (i : ℕ) where
-  few : length first ≡ min (length es) 65
-  few = ap length f ∙ length-take-le (min (length es) 65) es (omega arith)
+-- the turn of `gathered`, over the first n entries
+module _ (n : ℕ) (es first : List Entry) (f : first ≡ take n es) (i : ℕ) where
+  few : length first ≡ min n (length es)
+  few = ap length f ∙ length-take n es
 
   pub gathers_turn : (d : Entry) → i < length first → with_entry (held_of (take i es)) (get_or first i d) ≡ held_of (take (i + 1) es)
   gathers_turn d h =
-      let same : get_or first i d ≡ get_or es i d = ap (λ l. get_or l i d) f ∙ get_or-take (min (length es) 65) es i d (omega (arith, few)) in
+      let same : get_or first i d ≡ get_or es i d = ap (λ l. get_or l i d) f ∙ get_or-take n es i d (omega (arith, few)) in
       one_more (take i es) (get_or first i d)
       ∙ rw (same, add-one, take-suc es i d (omega (arith, few)))
 
-  pub gathers_end : (held : Held) → length first ≤ i → held ≡ held_of (take i es) → held ≡ held_of es
-  gathers_end held h e = e ∙ first_held es i (omega (arith, few))
+-- and its end: 65 of them are enough
+pub gathers_end : (es first : List Entry) (i : ℕ) (held : Held) → first ≡ take (min (length es) 65) es → length first ≤ i → held ≡ held_of (take i es) → held ≡ held_of es
+gathers_end es first i held f h e = e ∙ first_held es i (omega (arith, few _ es first f i))

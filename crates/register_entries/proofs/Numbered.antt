@@ -5,8 +5,8 @@ use mathlib.Core.List.{List, [], ◌∷◌}
 use Prim.Native.Nat.{ℕ, zero, suc, ◌+◌, ◌≤◌, ◌<◌, min}
 use native.Mathlib.Omega.{arith}
 use native.Mathlib.Numerals.{add-one}
-use lib.ListN.{length, get_or, take, drop}
-use lib.Seq.{take-suc, get_or-take, length-take-le}
+use lib.ListN.{length, get_or, take, drop, length-take}
+use lib.Seq.{take-suc, get_or-take}
 use Rattle.register_entries.specs.declared.entry.Entry.{Entry}
 use Rattle.register_entries.specs.declared.held.Held.{Held}
 use Rattle.register_entries.specs.Held.{blank, entry_of, held_of, with_entry, entries_of}
@@ -35,17 +35,18 @@ module _ (ids starts lengths : List ℕ) where
   abbrev es : List Entry
   es = entries_of ids starts lengths
 
-  -- the first identifiers, 65 at most
-  module _ (first : List ℕ) (f : first ≡ take (min (length ids) 65) ids) (i : ℕ) where
-    few : length first ≡ min (length ids) 65
-    few = ap length f ∙ length-take-le (min (length ids) 65) ids (omega arith)
+  -- over the first n identifiers
+  module _ (n : ℕ) (first : List ℕ) (f : first ≡ take n ids) (i : ℕ) where
+    few : length first ≡ min n (length ids)
+    few = ap length f ∙ length-take n ids
 
     pub numbers_turn : i < length first
         → with_entry (held_of (take i es)) (entry_of (get_or first i 0) (get_or starts i 0) (get_or lengths i 0)) ≡ held_of (take (i + 1) es)
     numbers_turn h =
-        let same : get_or first i 0 ≡ get_or ids i 0 = ap (λ l. get_or l i 0) f ∙ get_or-take (min (length ids) 65) ids i 0 (omega (arith, few)) in
+        let same : get_or first i 0 ≡ get_or ids i 0 = ap (λ l. get_or l i 0) f ∙ get_or-take n ids i 0 (omega (arith, few)) in
         one_more (take i es) (entry_of (get_or first i 0) (get_or starts i 0) (get_or lengths i 0))
         ∙ rw (same, add-one, ← entry_found ids starts lengths i (omega (arith, few)), take-suc es i blank (omega (arith, few, entries_long ids starts lengths)))
 
-    pub numbers_end : (held : Held) → length first ≤ i → held ≡ held_of (take i es) → held ≡ held_of es
-    numbers_end held h e = e ∙ first_held es i (omega (arith, few, entries_long ids starts lengths))
+  -- 65 of them are enough
+  pub numbers_end : (first : List ℕ) (i : ℕ) (held : Held) → first ≡ take (min (length ids) 65) ids → length first ≤ i → held ≡ held_of (take i es) → held ≡ held_of es
+  numbers_end first i held f h e = e ∙ first_held es i (omega (arith, few _ first f i, entries_long ids starts lengths))
